@@ -1,0 +1,58 @@
+// Names and numbers whose text is known from outside.
+
+use crate::{Name, NumberText, PadName, Role};
+
+#[test]
+fn tells_names_from_other_texts(rt: HostRuntime) {
+    let longest: &[u8] = b"abcdefghijklmnopqrstuvwxyz01234";
+    let too_long: &[u8] = b"abcdefghijklmnopqrstuvwxyz012345";
+    let table: [(&[u8], bool); 11] = [
+        (b"", false),
+        (b"a", true),
+        (b"A", false),
+        (b"1a", false),
+        (b"_a", false),
+        (b"a_1", true),
+        (b"a-1", false),
+        (b"aB", false),
+        (b"expr", true),
+        (longest, true),
+        (too_long, false),
+    ];
+    for (bytes, is_name) in table.iter() {
+        match Name::new(bytes) {
+            Some(name) => {
+                assert!(rt; *is_name);
+                assert_eq!(rt; name.as_bytes(), *bytes);
+            }
+            None => assert!(rt; !*is_name),
+        }
+    }
+}
+
+#[test]
+fn writes_numbers_in_decimal(rt: HostRuntime) {
+    let table: [(i128, &[u8]); 6] = [
+        (0, b"0"),
+        (-1, b"-1"),
+        (10, b"10"),
+        (9223372036854775808, b"9223372036854775808"),
+        (i128::MAX, b"170141183460469231731687303715884105727"),
+        (i128::MIN, b"-170141183460469231731687303715884105728"),
+    ];
+    for (value, text) in table.iter() {
+        assert_eq!(rt; NumberText::of(*value).as_bytes(), *text);
+    }
+}
+
+#[test]
+fn names_pads(rt: HostRuntime) {
+    let name = Name::new(b"carry");
+    if let Some(line) = name {
+        assert!(rt; PadName::input(line).role == Role::Input);
+        assert!(rt; PadName::output(line).name == name);
+        assert!(rt; PadName::input(line) != PadName::output(line));
+    }
+    assert!(rt; name.is_some());
+    assert!(rt; PadName::plain(Role::Reset).name.is_none());
+}
