@@ -1,0 +1,4 @@
+pub mod Chains
+pub mod Decided
+pub mod Words
+pub mod Answered
