@@ -1,0 +1,5 @@
+pub mod Runs
+pub mod FirstToken
+pub mod TokenLists
+pub mod Leaves
+pub mod ThinTexts
