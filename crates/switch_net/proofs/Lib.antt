@@ -1,0 +1,16 @@
+pub mod Faultless
+pub mod LoneNets
+pub mod SmallCircuits
+pub mod SettledGroups
+pub mod SplitRuns
+pub mod Members
+pub mod Renamings
+pub mod OtherGate
+pub mod PadLevels
+pub mod LogicDevices
+pub mod LogicNets
+pub mod LogicGroups
+pub mod LogicEquations
+pub mod LogicLevels
+pub mod LogicLaws
+pub mod RegisterCircuit

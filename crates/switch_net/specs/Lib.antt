@@ -1,0 +1,9 @@
+pub mod Circuit
+pub mod Settling
+pub mod Clock
+pub mod ClockedLogic
+pub mod Recognition
+pub mod Validity
+pub mod Examples
+pub mod SettlingLaws
+pub mod SameNetworks
