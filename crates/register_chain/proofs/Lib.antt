@@ -1,0 +1,11 @@
+pub mod Devices
+pub mod Driven
+pub mod Registers
+pub mod Follows
+pub mod ChainDriven
+pub mod Phases
+pub mod OneClock
+pub mod Runs
+pub mod Recognised
+pub mod Building
+pub mod ChainNetwork
