@@ -1,0 +1,4 @@
+pub mod Gathering
+pub mod Lines
+pub mod ReadBack
+pub mod OneNetwork
