@@ -1,0 +1,33 @@
+use Rattle.std.proofs.Common.{◌∙◌, subst}
+use Rattle.std.specs.Io.KnownBytes.{Appends}
+use Rattle.rx_io.specs.Streams.{AppendsFront}
+use Rattle.rxc_program.proofs.Endings.{ends_accepted, ends_refused, ends_well}
+use Rattle.rxc_program.specs.Compiled.{IsCompiled, Refuses}
+use Rattle.rxc_program.proofs.top.rxc.Goals as goal
+
+pub returns-clause-accepted : goal.returns-clause-accepted
+returns-clause-accepted g c command text told spec accepted =
+    let left = g.S.Source.left c.run-status.new.src in
+    ends_accepted text left spec c.run-status.result (c.run-status.ensures.usage ∙ command)
+    (λ code place e. subst (λ old. Refuses old left code place) told (c.run-status.ensures.refused code place e))
+    accepted
+
+pub returns-clause-not_accepted : goal.returns-clause-not_accepted
+returns-clause-not_accepted g c command text told code place refused =
+    let left = g.S.Source.left c.run-status.new.src in
+    let took = Appends (g.O.Sink.held c.args.out.now) (g.O.Sink.held c.run-status.new.out) in
+    let took_front = AppendsFront (g.O.Sink.held c.args.out.now) (g.O.Sink.held c.run-status.new.out) in
+    ends_refused text left took took_front code place c.run-status.result (c.run-status.ensures.usage ∙ command)
+    (λ named at e. subst (λ old. Refuses old left named at) told (c.run-status.ensures.refused named at e))
+    (λ e. subst (λ old. IsCompiled old left took) told (c.run-status.ensures.done e))
+    (λ e. subst (λ old. IsCompiled old left took_front) told (c.run-status.ensures.write_fault e))
+    refused
+
+pub returns-clause-complete : goal.returns-clause-complete
+returns-clause-complete g c command text told spec accepted no_read no_write =
+    let left = g.S.Source.left c.run-status.new.src in
+    let ends =
+    ends_accepted text left spec c.run-status.result (c.run-status.ensures.usage ∙ command)
+    (λ code place e. subst (λ old. Refuses old left code place) told (c.run-status.ensures.refused code place e))
+    accepted in
+    ends_well c.run-status.result _ _ ends c.run-status.ensures.read_cause c.run-status.ensures.write_cause no_read no_write

@@ -1,0 +1,4 @@
+pub mod Words
+pub mod StatusText
+pub mod Logged
+pub mod Compiled

@@ -1,0 +1,112 @@
+// The line that the log takes.
+
+ghost use Rattle.std.specs.Prelude.{◌≡◌, ◌≤◌, decimal, flat_map, OnErr};
+ghost use Rattle.std.specs.Fmt.{signed_decimal};
+ghost use Rattle.rx_io.specs.Causes.{Rose};
+ghost use Rattle.rxc_program.specs.Logged.{TakesOrFails, Writes};
+ghost use Rattle.rxc_program.specs.declared.status.Status.TheVariants.{Refused};
+ghost use Rattle.rxc_program.specs.StatusText.{code_text as text_of_code, status_line};
+
+use crate::status::{Code, Status};
+use rx_io::{Failed, Sink, put_all};
+use rx_text::{NumberText, Place};
+
+// Writes the status's line to the log. A log that fails loses the line or the end of it.
+pub(crate) fn tell<L: Sink>(log: &mut L, status: &Status)
+    ensures line { TakesOrFails (L.held log.old) (L.held log.new) (L.faults log.old) (L.faults log.new) (status_line status.now) }
+    ensures count { L.faults log.old ≤ L.faults log.new }
+{
+    let _ = write_line(log, status);
+}
+
+fn write_line<L: Sink>(log: &mut L, status: &Status) -> Result<(), Failed>
+    ensures bytes { Writes result (L.held log.old) (L.held log.new) (status_line status.now) }
+    ensures count { L.faults log.old ≤ L.faults log.new }
+    ensures cause { OnErr result (Rose (L.faults log.old) (L.faults log.new)) }
+{
+    match status {
+        Status::Done => Ok(()),
+        Status::Refused { code, place } => write_refusal(log, *code, place),
+        Status::Usage { word } => {
+            let word = unsigned_text(*word);
+            put_pieces(log, &[b"rxc: usage, word ", word.as_bytes(), b"\n"])
+        }
+        Status::ReadFault => put_all(log, b"rxc: read fault\n"),
+        Status::WriteFault => put_all(log, b"rxc: write fault\n"),
+        Status::NoMemory => put_all(log, b"rxc: no memory\n"),
+    }
+}
+
+fn write_refusal<L: Sink>(log: &mut L, code: Code, place: &Place) -> Result<(), Failed>
+    ensures bytes { Writes result (L.held log.old) (L.held log.new) (status_line (Refused code place.now)) }
+    ensures count { L.faults log.old ≤ L.faults log.new }
+    ensures cause { OnErr result (Rose (L.faults log.old) (L.faults log.new)) }
+{
+    let code = code_text(code);
+    match place {
+        Place::Text { line, column } => {
+            let (line, column) = (unsigned_text(*line), unsigned_text(*column));
+            put_pieces(
+                log,
+                &[
+                    b"rxc: ",
+                    code,
+                    b" at ",
+                    line.as_bytes(),
+                    b":",
+                    column.as_bytes(),
+                    b"\n",
+                ],
+            )
+        }
+        Place::Square { x, y } => {
+            let (x, y) = (signed_text(*x), signed_text(*y));
+            put_pieces(
+                log,
+                &[
+                    b"rxc: ",
+                    code,
+                    b" at square ",
+                    x.as_bytes(),
+                    b",",
+                    y.as_bytes(),
+                    b"\n",
+                ],
+            )
+        }
+        Place::Whole => put_pieces(log, &[b"rxc: ", code, b"\n"]),
+    }
+}
+
+fn code_text(code: Code) -> &'static [u8]
+    ensures { result.now ≡ text_of_code code }
+{
+    match code {
+        Code::S0 => b"S0 NotYet",
+        Code::I1 => b"I1 TooLong",
+    }
+}
+
+fn unsigned_text(number: u32) -> NumberText
+    ensures { result ≡ decimal number }
+{
+    NumberText::of(i128::from(number))
+}
+
+fn signed_text(number: i64) -> NumberText
+    ensures { result ≡ signed_decimal number }
+{
+    NumberText::of(i128::from(number))
+}
+
+// Writes the pieces one after another.
+fn put_pieces<L: Sink>(log: &mut L, pieces: &[&[u8]]) -> Result<(), Failed>
+    ensures bytes { Writes result (L.held log.old) (L.held log.new) (flat_map (λ piece. piece.now) pieces.now) }
+    ensures count { L.faults log.old ≤ L.faults log.new }
+    ensures cause { OnErr result (Rose (L.faults log.old) (L.faults log.new)) }
+{
+    for piece in pieces {
+        put_all(log, piece)?;
+    }
+    Ok(())
+}

@@ -1,0 +1,59 @@
+// The words of the command line, and the command that they name.
+
+ghost use Rattle.std.specs.Prelude.{◌≡◌, ◌<◌, ◌^◌, length, bytes_eq};
+ghost use Rattle.std.specs.Result.{result_err};
+ghost use Rattle.rxc_program.specs.Words.{wrong_word};
+
+use std::marker::Model;
+
+/// One word of the command line, as bytes.
+#[derive(Drop)]
+pub struct RxWord {
+    bytes: Vec<u8>,
+}
+
+impl Model for RxWord {
+    ghost use Rattle.std.specs.Prelude.{List, ℕ};
+
+    ghost Value = { List ℕ };
+
+    ghost view = { λ w. w.bytes.items };
+}
+
+impl RxWord {
+    /// The word with these bytes.
+    pub fn new(bytes: Vec<u8>) -> RxWord
+        ensures { result ≡ bytes.items }
+    {
+        RxWord { bytes }
+    }
+
+    // Whether the word is this text.
+    fn is(&self, text: &[u8]) -> bool
+        ensures { result ≡ bytes_eq self.now text.now }
+    {
+        self.bytes.as_slice() == text
+    }
+}
+
+/// What the words of a command line ask for.
+#[derive(Clone, Copy)]
+pub(crate) enum Command {
+    Net,
+}
+
+/// The command that the words name. An error is the number of the first word, from 1, at which no command goes on.
+pub(crate) fn named_command(words: &[RxWord]) -> Result<Command, u32>
+    ensures { result_err result ≡ wrong_word words.now }
+{
+    match words {
+        [first, rest @ ..] if first.is(b"net") => {
+            if rest.is_empty() {
+                Ok(Command::Net)
+            } else {
+                Err(2)
+            }
+        }
+        _ => Err(1),
+    }
+}
