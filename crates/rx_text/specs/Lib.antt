@@ -1,3 +1,4 @@
 pub mod Name
 pub mod Role
 pub mod NameFields
+pub mod TextPlace

@@ -11,4 +11,4 @@ mod tests;
 pub use name::Name;
 pub use number_text::NumberText;
 pub use pad_name::{PadName, Role};
-pub use place::Place;
+pub use place::{Place, place_at};

@@ -1,6 +1,6 @@
 // Names and numbers whose text is known from outside.
 
-use crate::{Name, NumberText, PadName, Role};
+use crate::{Name, NumberText, PadName, Place, Role, place_at};
 
 #[test]
 fn tells_names_from_other_texts(rt: HostRuntime) {
@@ -55,4 +55,28 @@ fn names_pads(rt: HostRuntime) {
     }
     assert!(rt; name.is_some());
     assert!(rt; PadName::plain(Role::Reset).name.is_none());
+}
+
+#[test]
+fn finds_lines_and_columns(rt: HostRuntime) {
+    let text: &[u8] = b"ab\n\n\r\tc\n";
+    let table: [(usize, u32, u32); 9] = [
+        (0, 1, 1),
+        (1, 1, 2),
+        (2, 1, 3),
+        (3, 2, 1),
+        (4, 3, 1),
+        (5, 3, 2),
+        (6, 3, 3),
+        (7, 3, 4),
+        (8, 4, 1),
+    ];
+    for (at, line, column) in table.iter() {
+        let place = Place::Text {
+            line: *line,
+            column: *column,
+        };
+        assert_eq!(rt; place_at(text, *at), place);
+    }
+    assert_eq!(rt; place_at(b"", 0), Place::Text { line: 1, column: 1 });
 }
