@@ -6,3 +6,6 @@ pub mod Tables
 pub mod Chain
 pub mod Laws
 pub mod Examples
+pub mod VectorWords
+pub mod Wrapped
+pub mod Around

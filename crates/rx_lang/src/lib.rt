@@ -4,15 +4,21 @@
 pub mod examples;
 pub mod expr_node;
 pub mod laws;
+pub mod marking;
+mod matching;
 pub mod pattern;
 pub mod spec;
+pub mod spelling;
 pub mod symbol;
 #[cfg(test)]
 mod tests;
 pub mod vector;
+mod wrapped;
 
 pub use expr_node::ExprNode;
+pub use marking::shows;
 pub use pattern::PatternBit;
 pub use spec::Spec;
+pub use spelling::accepts;
 pub use symbol::Symbol;
 pub use vector::Vector;
