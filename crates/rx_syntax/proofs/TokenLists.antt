@@ -1,10 +1,10 @@
 -- Lists of tokens at the front of a text.
 use Rattle.std.proofs.Common.{◌≡◌, ℕ, List, [], ◌∷◌, ◌++◌, length, refl, sym, ◌∙◌, subst}
 use Rattle.rx_syntax.specs.Tokens.{Token, Lexes, end}
-use Rattle.rx_syntax.specs.Lexing.{after_blanks, token_of, Answers, Reads}
+use Rattle.rx_syntax.specs.Lexing.{after_gaps, token_of, Answers, Reads}
 use Rattle.rx_syntax.specs.declared.token.Lexed.{Lexed}
 use Rattle.rx_syntax.specs.declared.token.Lexed.TheVariants.{Token as Found, End, Bad}
-use Rattle.rx_syntax.proofs.FirstToken.{begins_same, lexes_from, lexes_first, past, not_empty, blanks_back}
+use Rattle.rx_syntax.proofs.FirstToken.{begins_same, lexes_from, lexes_first, past, not_empty, gaps_back}
 
 -- one list behind another
 pub reads_more : (tokens more : List Token) (text middle rest : List ℕ) → Reads text tokens middle → Reads middle more rest
@@ -64,11 +64,11 @@ lexes_same (a ∷ xs) (b ∷ ys) text x y =
     let more = lexes_same xs ys f.0 f.2 (subst (λ t. Lexes t ys) (sym same.1) g.2) in
     cc (same.0, more)
 
--- a text without tokens has only blanks
-pub lexes_none : (text : List ℕ) → after_blanks text ≡ [] → Lexes text []
-lexes_none text e = blanks_back text [] (subst (λ t. Lexes t []) (sym e) end)
+-- a text without tokens has only blanks and comments
+pub lexes_none : (text : List ℕ) → after_gaps text ≡ [] → Lexes text []
+lexes_none text e = gaps_back text [] (subst (λ t. Lexes t []) (sym e) end)
 
-pub end_read : (text : List ℕ) (answer : Lexed) → Answers text answer → after_blanks text ≡ [] → answer ≡ End
+pub end_read : (text : List ℕ) (answer : Lexed) → Answers text answer → after_gaps text ≡ [] → answer ≡ End
 end_read text (Found found behind) h e = absurd (not_empty text (token_of found) behind.now e h)
 end_read text End h e = refl
 end_read text Bad h e =

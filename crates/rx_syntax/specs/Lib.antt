@@ -3,3 +3,14 @@ pub mod Lexing
 pub mod Statements
 pub mod Thin
 pub mod Parts
+pub mod Printed
+pub mod Pieces
+pub mod PrintExamples
+pub mod Lexemes
+pub mod Grammar
+pub mod Refusals
+pub mod Machine
+pub mod Uses
+pub mod Accepted
+pub mod Builder
+pub mod UsesRead

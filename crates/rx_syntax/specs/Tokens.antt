@@ -1,5 +1,5 @@
 -- The tokens of a specification, and the texts that consist of a list of tokens.
-use Rattle.std.specs.Prelude.{◌≡◌, ◌≢◌, ℕ, ◌||◌, ◌==◌, Bool, true, false, List, [], ◌∷◌, ◌++◌, ⊤}
+use Rattle.std.specs.Prelude.{◌≡◌, ◌≢◌, ℕ, ◌||◌, ◌==◌, not, Bool, true, false, List, [], ◌∷◌, ◌++◌, ⊤}
 use Rattle.std.specs.List.{list_all}
 use Rattle.rx_text.specs.Name.{begins_as_name, is_name_byte}
 use Rattle.rx_lang.specs.declared.pattern.PatternBit.{PatternBit}
@@ -14,6 +14,19 @@ pub data Token : Type 0 where
 -- space, tab, carriage return and line feed
 abbrev pub is_blank : ℕ → Bool
 is_blank byte = byte == 32 || byte == 9 || byte == 13 || byte == 10
+
+-- a comment goes on up to the line feed
+abbrev pub is_in_comment : ℕ → Bool
+is_in_comment byte = not (byte == 10)
+
+-- a blank, or the `#` of a comment
+abbrev pub is_gap_byte : ℕ → Bool
+is_gap_byte byte = is_blank byte || byte == 35
+
+-- The text begins with a blank or a comment.
+abbrev pub has_gap : List ℕ → Bool
+has_gap [] = false
+has_gap (byte ∷ rest) = is_gap_byte byte
 
 -- the signs | * + ? ! ( ) = ;
 abbrev pub is_sign : ℕ → Bool
@@ -46,9 +59,11 @@ IsToken (word name) rest = (begins_as_name name ≡ true) × StopsAt is_name_byt
 IsToken (pattern places) rest = (places ≢ []) × (list_all is_place_byte places ≡ true) × StopsAt is_place_byte rest
 IsToken (sign byte) rest = is_sign byte ≡ true
 
--- The text is these tokens in this order, with blanks before, between and behind them.
+-- The text is these tokens in this order, with blanks and comments before, between and behind them.
 pub data Lexes : List ℕ → List Token → Type 0 where
   end : Lexes [] []
   blank : (byte : ℕ) (rest : List ℕ) (tokens : List Token) → is_blank byte ≡ true → Lexes rest tokens → Lexes (byte ∷ rest) tokens
+  comment : (bytes rest : List ℕ) (text : List ℕ) (tokens : List Token) → text ≡ 35 ∷ (bytes ++ rest) → list_all is_in_comment bytes ≡ true
+      → StopsAt is_in_comment rest → Lexes rest tokens → Lexes text tokens
   next : (token : Token) (text rest : List ℕ) (tokens : List Token) → text ≡ bytes_of token ++ rest → IsToken token rest
       → Lexes rest tokens → Lexes text (token ∷ tokens)

@@ -1,8 +1,13 @@
-//! Laws of tokens and thin texts.
+//! Laws of tokens, of thin texts and of first faults.
 
-ghost use Rattle.std.specs.Prelude.{◌≡◌, ◌↔◌, ℕ, List, ◌∷◌};
+ghost use Rattle.std.specs.Prelude.{◌≡◌, ◌↔◌, ◌⊎◌, ℕ, List, ◌∷◌};
 ghost use Rattle.rx_syntax.specs.Tokens.{Token, Lexes};
 ghost use Rattle.rx_syntax.specs.Lexing.{Begins};
+ghost use Rattle.rx_syntax.specs.Lexemes.{Lexeme, LexemesFrom};
+ghost use Rattle.rx_syntax.specs.Refusals.{StandsFirst, IsShaped};
+ghost use Rattle.rx_syntax.specs.Accepted.{Accepted, Refused};
+ghost use Rattle.rx_lang.specs.Specification.{Specification};
+ghost use Rattle.rx_syntax.specs.declared.spec_code.SpecCode.{SpecCode};
 ghost use Rattle.rx_syntax.specs.Thin.{IsThin};
 ghost use Rattle.rx_syntax.specs.declared.thin.ThinSpec.{ThinSpec};
 
@@ -19,4 +24,30 @@ pub fn tokens_follow_the_first_one()
 /// A text is thin in one way at most.
 pub fn texts_are_thin_in_one_way()
     ensures { (text : List ℕ) (some other : ThinSpec) → IsThin text some → IsThin text other → some ≡ other }
+{}
+
+/// Every text has exactly one list of tokens with kinds and places.
+pub fn texts_have_tokens_with_places()
+    ensures some { (text : List ℕ) → (tokens : List Lexeme) × LexemesFrom text 0 tokens }
+    ensures one { (text : List ℕ) (some others : List Lexeme) → LexemesFrom text 0 some → LexemesFrom text 0 others → some ≡ others }
+{}
+
+/// Every text has the shape of a specification, or it has a first fault; never both, and never two first faults.
+pub fn texts_are_shaped_or_have_one_first_fault()
+    ensures either { (text : List ℕ) → IsShaped text ⊎ ((code : SpecCode) × (place : ℕ) × StandsFirst text code place) }
+    ensures exclusive { (text : List ℕ) (code : SpecCode) (place : ℕ) → IsShaped text → StandsFirst text code place → ⊥ }
+    ensures one { (text : List ℕ) (code other : SpecCode) (place elsewhere : ℕ)
+        → StandsFirst text code place → StandsFirst text other elsewhere → (code ≡ other) × (place ≡ elsewhere) }
+{}
+
+/// Every text is accepted as one specification or refused with one code at one place, and never both.
+pub fn texts_are_accepted_or_refused()
+    ensures either { (text : List ℕ) (limit : ℕ)
+        → ((spec : Specification) × Accepted text limit spec) ⊎ ((code : SpecCode) × (place : ℕ) × Refused text limit code place) }
+    ensures exclusive { (text : List ℕ) (limit : ℕ) (spec : Specification) (code : SpecCode) (place : ℕ)
+        → Accepted text limit spec → Refused text limit code place → ⊥ }
+    ensures one_specification { (text : List ℕ) (limit other : ℕ) (some others : Specification)
+        → Accepted text limit some → Accepted text other others → some ≡ others }
+    ensures one_refusal { (text : List ℕ) (limit : ℕ) (code other : SpecCode) (place elsewhere : ℕ)
+        → Refused text limit code place → Refused text limit other elsewhere → (code ≡ other) × (place ≡ elsewhere) }
 {}

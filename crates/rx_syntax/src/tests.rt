@@ -8,7 +8,7 @@ const PLAIN: &[u8] = b"line x;symbol a=1;output z;expr a!z;";
 
 #[test]
 fn reads_the_first_token(rt: HostRuntime) {
-    let table: [(&[u8], Lexed<'_>); 16] = [
+    let table: [(&[u8], Lexed<'_>); 18] = [
         (b"a_1-0", Lexed::Token(Token::Word(b"a_1"), b"-0")),
         (b" \t\r\nexpr a", Lexed::Token(Token::Word(b"expr"), b" a")),
         (b"z9", Lexed::Token(Token::Word(b"z9"), b"")),
@@ -21,7 +21,9 @@ fn reads_the_first_token(rt: HostRuntime) {
         (b"A", Lexed::Bad),
         (b"_a", Lexed::Bad),
         (b"2", Lexed::Bad),
-        (b" # a", Lexed::Bad),
+        (b" # a", Lexed::End),
+        (b" # a\n#\n\tb;", Lexed::Token(Token::Word(b"b"), b";")),
+        (b"#\xc3\xa9\0\r\nb", Lexed::Token(Token::Word(b"b"), b"")),
         (b"\0", Lexed::Bad),
         (b"\x0c;", Lexed::Bad),
         (b"\xc3\xa9", Lexed::Bad),
@@ -47,7 +49,13 @@ struct Row<'a> {
 
 #[test]
 fn reads_thin_texts(rt: HostRuntime) {
-    let rows: [Row<'_>; 7] = [
+    let rows: [Row<'_>; 8] = [
+        Row {
+            text: b"# a plain one\nline x;# symbol b = 0;\nsymbol a = 1;\n#\noutput z;expr a#\n!z;# end",
+            names: [b"x", b"a", b"z"],
+            pattern: PatternBit::One,
+            leaves: 1,
+        },
         Row {
             text: b"line x;\nsymbol a = 1;\noutput z;\nexpr a !z;\n",
             names: [b"x", b"a", b"z"],
@@ -106,7 +114,7 @@ fn reads_thin_texts(rt: HostRuntime) {
 
 #[test]
 fn refuses_other_texts(rt: HostRuntime) {
-    let texts: [&[u8]; 33] = [
+    let texts: [&[u8]; 32] = [
         b"\n",
         b"line x;symbol a=1;output z;expr a* !z;",
         b"line x;symbol a=1;output z;expr (a) !z;",
@@ -119,8 +127,7 @@ fn refuses_other_texts(rt: HostRuntime) {
         b"line x;symbol a=1;output z;expr a!z;x",
         b"line x;symbol a=1;output z;expr a!z;;",
         b"line x;symbol a=1;output z;expr a!z;\0",
-        b"line x;symbol a=1;output z;expr a!z;# end",
-        b"# begin\nline x;symbol a=1;output z;expr a!z;",
+        b"line x;symbol a=1;output z;expr # a!z;",
         b"line x;symbol a=1;output z;expr a!z;expr a!z;",
         b"line x;line y;symbol a=1;output z;expr a!z;",
         b"line x;symbol a=1;symbol b=0;output z;expr a!z;",

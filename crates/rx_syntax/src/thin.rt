@@ -33,8 +33,8 @@ struct Parts<'a> {
     leaves: u32,
 }
 
-/// Reads a thin text: `line L; symbol A = B; output Z; expr A .. A !Z;` with blanks between, where L, A and Z are three
-/// different names, B is `0`, `1` or `-`, and the symbol stands 1 to 4096 times. `None` for each other text.
+/// Reads a thin text: `line L; symbol A = B; output Z; expr A .. A !Z;` with blanks and comments between, where L, A and
+/// Z are three different names, B is `0`, `1` or `-`, and the symbol stands 1 to 4096 times. `None` for each other text.
 pub fn read_thin(text: &[u8]) -> Option<ThinSpec>
     ensures thin { IfSome result (λ thin. IsThin text.now thin) }
     ensures other { IsNone result → (thin : ThinSpec) → IsThin text.now thin → ⊥ }

@@ -4,8 +4,9 @@ ghost use Rattle.std.specs.Prelude.{◌≡◌, ◌↔◌, ℕ, List, IsTrue, IfS
 ghost use Rattle.std.specs.List.{prefix_len};
 ghost use Rattle.rx_text.specs.Name.{is_name_byte};
 ghost use Rattle.rx_syntax.specs.Tokens.{word, pattern, sign, is_blank, is_place_byte, is_sign};
-ghost use Rattle.rx_syntax.specs.Lexing.{token_of, Answers};
+ghost use Rattle.rx_syntax.specs.Lexing.{token_of, after_gaps, Answers};
 
+use crate::lexeme::{begins_with_gap, first_size};
 use rx_text::name::{is_inside_name, starts_name};
 
 /// A token of a specification, as the bytes of the text that it is.
@@ -63,24 +64,24 @@ impl<'a> Token<'a> {
     }
 }
 
-/// What stands at the front of a text, blanks aside.
+/// What stands at the front of a text, blanks and comments aside.
 #[derive(Clone, Copy, Debug, PartialEq, Eq)]
 pub enum Lexed<'a> {
     /// A token, and the text behind it.
     Token(Token<'a>, &'a [u8]),
-    /// Nothing: the text has only blanks.
+    /// Nothing: the text has only blanks and comments.
     End,
     /// A byte that begins no token.
     Bad,
 }
 
-fn is_blank(byte: u8) -> bool
+pub(crate) fn is_blank(byte: u8) -> bool
     ensures { result ≡ is_blank byte }
 {
     matches!(byte, b' ' | b'\t' | b'\r' | b'\n')
 }
 
-fn is_place_byte(byte: u8) -> bool
+pub(crate) fn is_place_byte(byte: u8) -> bool
     ensures { result ≡ is_place_byte byte }
 {
     matches!(byte, b'0' | b'1' | b'-')
@@ -95,15 +96,8 @@ fn is_sign(byte: u8) -> bool
     )
 }
 
-// How many bytes at the front are blanks.
-fn blank_length(text: &[u8]) -> usize
-    ensures { result ≡ prefix_len is_blank text.now }
-{
-    text.iter().take_while(|byte| is_blank(**byte)).count()
-}
-
 // How many bytes at the front go on with a name.
-fn name_length(text: &[u8]) -> usize
+pub(crate) fn name_length(text: &[u8]) -> usize
     ensures { result ≡ prefix_len is_name_byte text.now }
 {
     text.iter()
@@ -112,18 +106,30 @@ fn name_length(text: &[u8]) -> usize
 }
 
 // How many bytes at the front go on with a pattern.
-fn pattern_length(text: &[u8]) -> usize
+pub(crate) fn pattern_length(text: &[u8]) -> usize
     ensures { result ≡ prefix_len is_place_byte text.now }
 {
     text.iter().take_while(|byte| is_place_byte(**byte)).count()
 }
 
-/// Reads the token at the front of the text, blanks aside. Names and patterns are as long as they can be. The answer is
-/// `End` exactly where only blanks are left, and `Bad` exactly where the first byte behind them begins no token.
+// The text behind the blanks and comments at its front.
+fn after_gaps(text: &[u8]) -> &[u8]
+    ensures { result.now ≡ after_gaps text.now }
+{
+    let mut rest = text;
+    while begins_with_gap(rest) {
+        (_, rest) = rest.split_at(first_size(rest));
+    }
+    rest
+}
+
+/// Reads the token at the front of the text, blanks and comments aside. Names and patterns are as long as they can be.
+/// The answer is `End` exactly where only blanks and comments are left, and `Bad` exactly where the first byte behind
+/// them begins no token.
 pub fn next_token(text: &[u8]) -> Lexed<'_>
     ensures { Answers text.now result }
 {
-    let (_, text) = text.split_at(blank_length(text));
+    let text = after_gaps(text);
     let Some((first, behind)) = text.split_first() else {
         return Lexed::End;
     };

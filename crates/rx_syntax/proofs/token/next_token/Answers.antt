@@ -6,9 +6,6 @@ use Rattle.rx_syntax.proofs.token.next_token.Goals as goal
 pub split_at-requires : goal.split_at-requires
 split_at-requires c = search (rules, prefix_len-le-length)
 
-pub split_at-requires-then-starts_name : goal.split_at-requires-then-starts_name
-split_at-requires-then-starts_name c = search (rules, prefix_len-le-length)
-
 pub split_at-requires-then-is_place_byte : goal.split_at-requires-then-is_place_byte
 split_at-requires-then-is_place_byte c = search (rules, prefix_len-le-length)
 

@@ -1,0 +1,11 @@
+use Rattle.std.proofs.Common.{◌∙◌, ap, sym}
+use Rattle.rx_lang.specs.declared.expr_node.ExprNode.TheVariants.{Leaf}
+use Rattle.rx_lang.specs.Tables.{trees}
+use Rattle.rx_syntax.specs.Printed.{is_compound}
+use Rattle.rx_syntax.proofs.Printing.{tree_read}
+use Rattle.rx_syntax.proofs.print.is_compound.Goals as goal
+
+pub returns : goal.returns
+returns c =
+    c.is_compound_node.ensures (trees c.args.spec.now.nodes)
+    ∙ ap is_compound (sym (tree_read c.args.spec.now c.nodes.ensures.specification c.nodes.result.now c.nodes.ensures.nodes c.args.node (Leaf 0) c.requires))

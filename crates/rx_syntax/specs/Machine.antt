@@ -1,0 +1,98 @@
+-- What may come next behind the tokens that were read, without a stack: what is due, and how many parentheses are open.
+use Rattle.std.specs.Prelude.{ℕ, zero, suc, nat_le, if◌then◌else◌, List, [], ◌∷◌, Option, Some, None, Result, Ok, Err}
+use Rattle.rx_syntax.specs.Lexemes.{Lexeme}
+use Rattle.rx_syntax.specs.declared.kind.Kind.{Kind}
+use Rattle.rx_syntax.specs.declared.kind.Kind.TheVariants.{Bad, Name, Pattern, Line, Symbol, Output, Expr, Bar, Star, Plus, Question, Mark, Open, Close, Equals, Semicolon}
+use Rattle.rx_syntax.specs.declared.machine.Due.{Due}
+use Rattle.rx_syntax.specs.declared.machine.Due.TheVariants.{FirstLine, LineName, MoreNames, NextLine, SymbolName, SymbolEquals, SymbolPattern, SymbolEnd, NextSymbol, OutputName, MoreOutputs, NextOutput, Part, Rest, MarkName, NextExpr}
+use Rattle.rx_syntax.specs.declared.machine.State.{State}
+use Rattle.rx_syntax.specs.declared.spec_code.SpecCode.{SpecCode}
+use Rattle.rx_syntax.specs.declared.spec_code.SpecCode.TheVariants.{BadByte, BadToken, NoLines, NoSymbols, NoOutputs, NoExpression, TooDeep}
+
+-- This is due, and so many parentheses are open.
+abbrev pub at : Due → ℕ → Option State
+at due depth = Some (record { due = due; depth = depth })
+
+-- what is due behind a token of this kind, where it may come
+abbrev pub step : Due → Kind → ℕ → Option State
+step FirstLine Line d = at LineName 0
+step LineName Name d = at MoreNames 0
+step MoreNames Name d = at MoreNames 0
+step MoreNames Semicolon d = at NextLine 0
+step NextLine Line d = at LineName 0
+step NextLine Symbol d = at SymbolName 0
+step SymbolName Name d = at SymbolEquals 0
+step SymbolEquals Equals d = at SymbolPattern 0
+step SymbolPattern Pattern d = at SymbolEnd 0
+step SymbolEnd Semicolon d = at NextSymbol 0
+step NextSymbol Symbol d = at SymbolName 0
+step NextSymbol Output d = at OutputName 0
+step OutputName Name d = at MoreOutputs 0
+step MoreOutputs Name d = at MoreOutputs 0
+step MoreOutputs Semicolon d = at NextOutput 0
+step NextOutput Output d = at OutputName 0
+step NextOutput Expr d = at Part 0
+step Part Name d = at Rest d
+step Part Open d = at Part (suc d)
+step Rest Name d = at Rest d
+step Rest Open d = at Part (suc d)
+step Rest Close (suc d) = at Rest d
+step Rest Bar d = at Part d
+step Rest Star d = at Rest d
+step Rest Plus d = at Rest d
+step Rest Question d = at Rest d
+step Rest Mark d = at MarkName d
+step Rest Semicolon zero = at NextExpr 0
+step MarkName Name d = at Rest d
+step NextExpr Expr d = at Part 0
+step due kind d = None
+
+-- the code where a later section's keyword comes too early
+abbrev pub missing : Due → Kind → Option SpecCode
+missing FirstLine Symbol = Some NoLines
+missing FirstLine Output = Some NoLines
+missing FirstLine Expr = Some NoLines
+missing NextLine Output = Some NoSymbols
+missing NextLine Expr = Some NoSymbols
+missing NextSymbol Expr = Some NoOutputs
+missing due kind = None
+
+-- the code where the text ends, if it may not
+abbrev pub end_code : Due → Option SpecCode
+end_code FirstLine = Some NoLines
+end_code NextLine = Some NoSymbols
+end_code NextSymbol = Some NoOutputs
+end_code NextOutput = Some NoExpression
+end_code NextExpr = None
+end_code due = Some BadToken
+
+-- no token may come, or one that does not open too many parentheses
+abbrev pub not_deep : Option State → Result State SpecCode
+not_deep None = Err BadToken
+not_deep (Some state) = if nat_le state.depth 200 then Ok state else Err TooDeep
+
+abbrev pub not_missing : Option SpecCode → Result State SpecCode → Result State SpecCode
+not_missing None result = result
+not_missing (Some code) result = Err code
+
+abbrev pub not_bad : Kind → Result State SpecCode → Result State SpecCode
+not_bad Bad result = Err BadByte
+not_bad kind result = result
+
+-- what is due behind a token, or the code that stands there
+abbrev pub token_step : Due → Kind → ℕ → Result State SpecCode
+token_step due kind d = not_bad kind (not_missing (missing due kind) (not_deep (step due kind d)))
+
+abbrev pub next_state : Option State → Kind → Option State
+next_state None kind = None
+next_state (Some state) kind = step state.due kind state.depth
+
+-- what is due behind these tokens, where each may come
+abbrev pub run : List Lexeme → Option State → Option State
+run [] state = state
+run (t ∷ ts) state = run ts (next_state state t.kind)
+
+-- what is due behind a piece of the text: blanks and comments change nothing
+abbrev pub piece_step : Option Kind → State → Result State SpecCode
+piece_step None state = Ok state
+piece_step (Some kind) state = token_step state.due kind state.depth
