@@ -1,0 +1,11 @@
+pub mod Trees
+pub mod Normal
+pub mod Shapes
+pub mod Tables
+pub mod Steps
+pub mod Passes
+pub mod Tops
+pub mod Building
+pub mod Sizes
+pub mod Laws
+pub mod Examples
