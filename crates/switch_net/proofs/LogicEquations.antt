@@ -1,12 +1,12 @@
 -- Settled values of clocked logic are those of the logic, and the other way round: one equation for each net.
 use Rattle.std.proofs.Common.{◌≡◌, ◌⊎◌, ℕ, ◌<◌, not, Bool, true, false, Some, refl, inl, inr, ap}
 use Rattle.std.proofs.lemmas.Bool.{cases_Bool, false_from_ne_true}
-use Rattle.switch_net.proofs.LogicGroups.{Within, gate_low, low_gate, gate_high, transfer_joins, alone, alone_level, alone_loaded}
+use Rattle.switch_net.proofs.LogicGroups.{Within, gate_low, low_gate, gate_high, transfer_joins, alone, alone_level, alone_loaded, isolated_alone, isolated_unled, isolated_unloaded}
 use Rattle.switch_net.proofs.LogicGroups.Within.{itself, opened}
 use Rattle.switch_net.proofs.LogicNets as nets
 use Rattle.switch_net.proofs.LogicNets.{Setting, Transfer}
 use Rattle.switch_net.specs.ClockedLogic.{NetKind, FollowsLogic, pulls_down}
-use Rattle.switch_net.specs.ClockedLogic.NetKind.{fixed, gate, stored}
+use Rattle.switch_net.specs.ClockedLogic.NetKind.{fixed, gate, stored, isolated}
 use Rattle.switch_net.specs.Settling.{Values, fixed_level, IsFree, Grouped, Source, IsPulledLow, IsPulledHigh, SettledAt, Settled}
 use Rattle.switch_net.specs.Settling.Grouped.{here}
 
@@ -105,6 +105,24 @@ module _ (s : Setting) (q v : Values) where
     alike = λ other none m g. ap v (held_alone net m clock source k low g);
   }
 
+  -- an isolated net keeps its charge
+  isolated_not_high : (net : ℕ) → kind net ≡ isolated → IsPulledHigh circuit drives v net → ⊥
+  isolated_not_high net k (inl led) = isolated_unled s v net true k led
+  isolated_not_high net k (inr loaded) = isolated_unloaded s v net k loaded
+
+  isolated_equation : (net : ℕ) → kind net ≡ isolated → SettledAt circuit drives q v net → v net ≡ q net
+  isolated_equation net k settled =
+      settled.kept (isolated_unled s v net false k) (isolated_not_high net k) (q net)
+      (λ m g. ap q (isolated_alone s v net m k g))
+
+  isolated_settled : (net : ℕ) → kind net ≡ isolated → v net ≡ q net → SettledAt circuit drives q v net
+  isolated_settled net k e = record {
+    low = λ led. absurd (isolated_unled s v net false k led);
+    high = λ other high. absurd (isolated_not_high net k high);
+    kept = λ other none level charged. let c = charged net (here net) in cc;
+    alike = λ other none m g. ap v (isolated_alone s v net m k g);
+  }
+
   open_follows : (net clock source : ℕ) → net < circuit.nets → kind net ≡ stored clock source → v clock ≡ true
       → source < circuit.nets → (kind source ≡ gate) ⊎ (kind source ≡ fixed)
       → Settled circuit drives q v → v net ≡ v source
@@ -131,6 +149,7 @@ module _ (s : Setting) (q v : Values) where
         open_follows net clock source below k h t.source_below t.source_kind settled;
     held = λ net clock source below k low.
         held_equation net clock source k low (settled.free net (nets.free_at s net below (λ f. cc)));
+    isolated = λ net below k. isolated_equation net k (settled.free net (nets.free_at s net below (λ f. cc)));
   }
 
   open_settled : (net clock source : ℕ) → net < circuit.nets → kind net ≡ stored clock source → v clock ≡ true
@@ -150,6 +169,7 @@ module _ (s : Setting) (q v : Values) where
       → FollowsLogic circuit ground kind drives q v → SettledAt circuit drives q v net
   kind_settled fixed net free k values = absurd (nets.free_kind s net free k)
   kind_settled gate net free k values = gate_settled net net free.0 free.0 k (itself refl) (values.gates net free.0 k)
+  kind_settled isolated net free k values = isolated_settled net k (values.isolated net free.0 k)
   kind_settled (stored clock source) net free k values =
       let t = nets.transfer s net clock source free.0 k in
       elim (cases_Bool (v clock)) [

@@ -6,7 +6,7 @@ use Rattle.switch_net.proofs.LogicDevices.Leads.{pulls, fills}
 use Rattle.switch_net.proofs.LogicNets as nets
 use Rattle.switch_net.proofs.LogicNets.{Setting}
 use Rattle.switch_net.specs.ClockedLogic.{NetKind, IsLogicDevice, NamesBelow, pulls_down}
-use Rattle.switch_net.specs.ClockedLogic.NetKind.{fixed, gate, stored}
+use Rattle.switch_net.specs.ClockedLogic.NetKind.{fixed, gate, stored, isolated}
 use Rattle.switch_net.specs.Settling.{Values, fixed_level, Joins, Grouped, Source, Loaded, IsPulledLow, IsPulledHigh}
 use Rattle.switch_net.specs.Settling.Grouped.{here, step}
 
@@ -141,6 +141,31 @@ module _ (s : Setting) (v : Values) where
       → Loaded circuit drives v net → ⊥
   alone_loaded net clock source k led l =
       let e = alone net l.at clock source k led l.grouped in
+      let g = load_gate ground kind circuit.devices
+      (recursion_from_All (IsLogicDevice ground kind) circuit.devices logic.devices) l.at l.load in
+      cc
+
+  -- nothing leads to an isolated net, or from it
+  isolated_lead : (net b : ℕ) → kind net ≡ isolated
+      → Leads ground kind circuit.devices v net b ⊎ Leads ground kind circuit.devices v b net → ⊥
+  isolated_lead net b k (inl (pulls g e h)) = cc
+  isolated_lead net b k (inl (fills clock k' h (inl s))) = cc
+  isolated_lead net b k (inl (fills clock k' h (inr s))) = cc
+  isolated_lead net b k (inr (pulls g e h)) = let f = nets.ground_kind s in cc
+  isolated_lead net b k (inr (fills clock k' h s)) = cc
+
+  pub isolated_alone : (net m : ℕ) → kind net ≡ isolated → Grouped circuit drives v net m → m ≡ net
+  isolated_alone _ _ k (here a) = refl
+  isolated_alone _ _ k (step a b m j f r) = absurd (isolated_lead a b k (leads a b j))
+
+  pub isolated_unled : (net : ℕ) (level : Bool) → kind net ≡ isolated → Source circuit drives v level net → ⊥
+  isolated_unled net level k h =
+      let e = isolated_alone net h.from k h.grouped in
+      isolated_lead h.from h.to (rw e k) (leads h.from h.to h.joined)
+
+  pub isolated_unloaded : (net : ℕ) → kind net ≡ isolated → Loaded circuit drives v net → ⊥
+  isolated_unloaded net k l =
+      let e = isolated_alone net l.at k l.grouped in
       let g = load_gate ground kind circuit.devices
       (recursion_from_All (IsLogicDevice ground kind) circuit.devices logic.devices) l.at l.load in
       cc

@@ -5,7 +5,7 @@ use Rattle.std.proofs.lemmas.List.Elements.{All-contains}
 use Rattle.switch_net.proofs.LogicNets as nets
 use Rattle.switch_net.proofs.LogicNets.{Setting, Transfer}
 use Rattle.switch_net.specs.ClockedLogic.{NetKind, NamesBelow, IsLevelled, FollowsLogic, pulls_down}
-use Rattle.switch_net.specs.ClockedLogic.NetKind.{fixed, gate, stored}
+use Rattle.switch_net.specs.ClockedLogic.NetKind.{fixed, gate, stored, isolated}
 use Rattle.switch_net.specs.Settling.{Values, fixed_level}
 use Rattle.switch_net.specs.declared.network.Device.{Device}
 use Rattle.switch_net.specs.declared.network.Device.TheVariants.{Pass, Load}
@@ -21,6 +21,7 @@ abbrev pub equation : Setting → Values → Values → ℕ → NetKind → Bool
 equation s q v net fixed = level_or_low (fixed_level s.circuit.pads s.drives net)
 equation s q v net gate = not (pulls_down s.ground s.circuit.devices v net)
 equation s q v net (stored clock source) = cond (level_or_low (fixed_level s.circuit.pads s.drives clock)) (v source) (q net)
+equation s q v net isolated = q net
 
 -- the value of each net after so many rounds of the equations
 abbrev pub rounds : Setting → Values → ℕ → Values
@@ -64,6 +65,7 @@ module _ (s : Setting) where
   equation_alike : (level : ℕ → ℕ) → IsLevelled circuit ground kind drives level → (q v w : Values) (net : ℕ) → net < circuit.nets
       → AgreeBelow level (level net) v w → (k : NetKind) → kind net ≡ k → equation s q v net k ≡ equation s q w net k
   equation_alike level levelled q v w net below same fixed e = refl
+  equation_alike level levelled q v w net below same isolated e = refl
   equation_alike level levelled q v w net below same gate e =
       ap not (pulls_alike ground v w net circuit.devices
       (λ input a c e'. same input.0
@@ -89,6 +91,7 @@ module _ (s : Setting) where
       → (k : NetKind) → kind net ≡ k → v net ≡ equation s q v net k
   follows_equation q v values net below fixed e = fixed_value q v values net below e
   follows_equation q v values net below gate e = values.gates net below e
+  follows_equation q v values net below isolated e = values.isolated net below e
   follows_equation q v values net below (stored clock source) e =
       let t = nets.transfer s net clock source below e in
       let c = fixed_value q v values clock t.clock_below t.clock_fixed in
@@ -118,6 +121,7 @@ module _ (s : Setting) where
       held = λ net clock source below k low.
           let c = clock_value net clock source below k in
           rw (← c, low) at (solved net (stored clock source) below k);
+      isolated = λ net below k. solved net isolated below k;
     }
 
   -- each round leaves the nets below it as they are

@@ -10,11 +10,13 @@ use Rattle.switch_net.specs.declared.network.Pad.{Pad}
 use Rattle.switch_net.specs.declared.network.Device.{Device}
 use Rattle.switch_net.specs.declared.network.Device.TheVariants.{Pass, Load}
 
--- What a net of clocked logic is: fixed by its pad, the output of a NOR gate, or a storage node with its clock and source.
+-- What a net of clocked logic is: fixed by its pad, the output of a NOR gate, a storage node with its clock and source, or
+-- isolated, as nothing leads to it.
 pub data NetKind : Type 0 where
   fixed : NetKind
   gate : NetKind
   stored : ℕ → ℕ → NetKind
+  isolated : NetKind
 
 -- pads of all roles but the outputs fix their nets
 abbrev pub fixes : Role → Bool
@@ -68,12 +70,13 @@ pulls_down ground (Pass input a b ∷ devices) v net =
     (a.0 == net && b.0 == ground && v input.0) || pulls_down ground devices v net
 
 -- The values are those of the logic: each gate is the NOR of the inputs that pull it down, a storage node follows its
--- source while its clock is high, and holds its charge while it is low.
+-- source while its clock is high, and holds its charge while it is low, as an isolated net always does.
 pub record FollowsLogic (circuit : Circuit) (ground : ℕ) (kind : ℕ → NetKind) (drives : List Bool) (q v : Values) : Type 0 where
   pub pads : (net : ℕ) (level : Bool) → net < circuit.nets → fixed_level circuit.pads drives net ≡ Some level → v net ≡ level
   pub gates : (net : ℕ) → net < circuit.nets → kind net ≡ gate → v net ≡ not (pulls_down ground circuit.devices v net)
   pub follows : (net clock source : ℕ) → net < circuit.nets → kind net ≡ stored clock source → v clock ≡ true → v net ≡ v source
   pub held : (net clock source : ℕ) → net < circuit.nets → kind net ≡ stored clock source → v clock ≡ false → v net ≡ q net
+  pub isolated : (net : ℕ) → net < circuit.nets → kind net ≡ isolated → v net ≡ q net
 
 -- The nets have levels: an input of a gate lies below its output, and a source below a storage node whose clock is high.
 pub record IsLevelled (circuit : Circuit) (ground : ℕ) (kind : ℕ → NetKind) (drives : List Bool) (level : ℕ → ℕ) : Type 0 where

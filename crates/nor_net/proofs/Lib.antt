@@ -1,0 +1,9 @@
+pub mod Steps
+pub mod Pads
+pub mod NetKinds
+pub mod FormDevices
+pub mod FormLogic
+pub mod Order
+pub mod Clocks
+pub mod Building
+pub mod ExampleRegister

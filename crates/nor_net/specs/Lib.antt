@@ -1,0 +1,4 @@
+pub mod Netlist
+pub mod Evaluation
+pub mod SwitchForm
+pub mod Examples

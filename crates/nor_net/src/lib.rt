@@ -1,0 +1,18 @@
+//! Networks of NOR gates and clocked transfers: what they compute, and their form as switch networks.
+#![tactic(auto)]
+
+pub mod evaluation;
+pub mod examples;
+pub mod gate;
+pub mod netlist;
+pub mod no_memory;
+pub mod switch_form;
+#[cfg(test)]
+mod tests;
+
+pub use evaluation::step;
+pub use examples::register_shows;
+pub use gate::{Gate, Transfer};
+pub use netlist::NorNet;
+pub use no_memory::NoMemory;
+pub use switch_form::to_switch;
