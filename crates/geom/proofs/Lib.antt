@@ -1,0 +1,10 @@
+pub mod Turns
+pub mod TallRuns
+pub mod Canonical
+pub mod RowSweep
+pub mod Places
+pub mod PileOrder
+pub mod PileSteps
+pub mod PileRows
+pub mod Stacks
+pub mod Layers

@@ -1,0 +1,22 @@
+//! Boxes of layers on the grid of lambda: their unit squares, transforms, and chips made of them.
+#![tactic(auto)]
+
+pub mod chip;
+pub mod layer;
+pub mod layer_box;
+pub mod merging;
+pub mod no_memory;
+pub mod orient;
+mod pile;
+pub mod placing;
+mod row;
+#[cfg(test)]
+mod tests;
+
+pub use chip::{Call, Chip, Kind, Label, Rect};
+pub use layer::Layer;
+pub use layer_box::Box2;
+pub use merging::{merge_runs, merged_once};
+pub use no_memory::NoMemory;
+pub use orient::Orient;
+pub use placing::place;
