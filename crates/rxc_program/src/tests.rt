@@ -110,11 +110,10 @@ fn takes_one_command(rt: HostRuntime) -> Result<(), Fail> {
 
 #[test]
 fn refuses_what_it_does_not_take(rt: HostRuntime) -> Result<(), Fail> {
-    let cases: [&[u8]; 8] = [
+    let cases: [&[u8]; 7] = [
         b"",
         b"line x;\nsymbol a = 1;\noutput z;\nexpr a* !z;\n",
         b"line x;\nsymbol a = 1;\noutput z;\nexpr b !z;\n",
-        b"line x;\nsymbol a = 1;\noutput z;\n# a comment\nexpr a !z;\n",
         b"line x;\nsymbol a = 1;\noutput z;\nexpr a !z;\0",
         b"line x;\nsymbol a = 1;\noutput z;\nexpr a !z;\nexpr a !z;\n",
         b"line x y;\nsymbol a = 11;\noutput z;\nexpr a !z;\n",
@@ -197,11 +196,11 @@ fn takes_up_to_4096_occurrences(rt: HostRuntime) -> Result<(), Fail> {
 fn takes_the_examples(rt: HostRuntime) -> Result<(), Fail> {
     let cases: [(&[u8], &[u8]); 2] = [
         (
-            b"line d;\nsymbol one = 1;\noutput run;\nexpr one one one !run;\n",
+            b"# Three ones in a row from the start.\nline d;\nsymbol one = 1;\noutput run;\nexpr one one one !run;\n",
             b"rxnet 1\nnets 25\nvdd 0\ngnd 1\nphi1 2\nphi2 3\nreset 4\nin d 5\nout run 6\n",
         ),
         (
-            b"line enable;\nsymbol tick = -;\noutput ready;\nexpr tick tick tick tick tick tick tick tick !ready;\n",
+            b"# High eight clocks after the reset, whatever the line does.\nline enable;\nsymbol tick = -;\noutput ready;\nexpr tick tick tick tick tick tick tick tick !ready;\n",
             b"rxnet 1\nnets 45\nvdd 0\ngnd 1\nphi1 2\nphi2 3\nreset 4\nin enable 5\nout ready 6\n",
         ),
     ];
@@ -210,6 +209,16 @@ fn takes_the_examples(rt: HostRuntime) -> Result<(), Fail> {
         assert_eq!(rt; run.status, Status::Done);
         assert!(rt; run.out.starts_with(front));
     }
+    Ok(())
+}
+
+#[test]
+fn reads_past_comments(rt: HostRuntime) -> Result<(), Fail> {
+    let text =
+        b"line x; # a line\nsymbol a = 1;#\noutput z;\n# the mark\nexpr a !z; # no line feed";
+    let run = run_on(rt.alloc(), &[b"net"], text, NO_FAULTS)?;
+    assert_eq!(rt; run.status, Status::Done);
+    assert_eq!(rt; run.out.as_slice(), ONE_NETWORK);
     Ok(())
 }
 
