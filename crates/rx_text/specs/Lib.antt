@@ -2,3 +2,4 @@ pub mod Name
 pub mod Role
 pub mod NameFields
 pub mod TextPlace
+pub mod NumberInText

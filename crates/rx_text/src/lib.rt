@@ -2,6 +2,7 @@
 #![tactic(auto)]
 
 pub mod name;
+pub mod number;
 pub mod number_text;
 pub mod pad_name;
 pub mod place;
@@ -9,6 +10,7 @@ pub mod place;
 mod tests;
 
 pub use name::Name;
+pub use number::{NumberFault, read_number};
 pub use number_text::NumberText;
 pub use pad_name::{PadName, Role};
 pub use place::{Place, place_at};

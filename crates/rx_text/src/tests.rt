@@ -1,6 +1,6 @@
 // Names and numbers whose text is known from outside.
 
-use crate::{Name, NumberText, PadName, Place, Role, place_at};
+use crate::{Name, NumberFault, NumberText, PadName, Place, Role, place_at, read_number};
 
 #[test]
 fn tells_names_from_other_texts(rt: HostRuntime) {
@@ -79,4 +79,24 @@ fn finds_lines_and_columns(rt: HostRuntime) {
         assert_eq!(rt; place_at(text, *at), place);
     }
     assert_eq!(rt; place_at(b"", 0), Place::Text { line: 1, column: 1 });
+}
+
+#[test]
+fn reads_numbers_up_to_a_most(rt: HostRuntime) {
+    let largest: &[u8] = b"18446744073709551615x";
+    let beyond: &[u8] = b"18446744073709551616";
+    assert_eq!(rt; read_number(b"041;", 0, 41), Ok((41, 3)));
+    assert_eq!(rt;
+        read_number(b"041;", 0, 40),
+        Err(NumberFault::NumberTooLarge)
+    );
+    assert_eq!(rt; read_number(b"041;", 3, 41), Err(NumberFault::BadNumber));
+    assert_eq!(rt; read_number(b"041;", 4, 41), Err(NumberFault::BadNumber));
+    assert_eq!(rt; read_number(b"041;", 2, 41), Ok((1, 3)));
+    assert_eq!(rt; read_number(b"0", 0, 0), Ok((0, 1)));
+    assert_eq!(rt; read_number(largest, 0, u64::MAX), Ok((u64::MAX, 20)));
+    assert_eq!(rt;
+        read_number(beyond, 0, u64::MAX),
+        Err(NumberFault::NumberTooLarge)
+    );
 }
