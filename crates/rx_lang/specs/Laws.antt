@@ -5,7 +5,6 @@ use Rattle.rx_lang.specs.Vector.{Bits, Matches}
 use Rattle.rx_lang.specs.Expression.{Expr, sequence, star, plus, marked}
 use Rattle.rx_lang.specs.Meaning.{Cut, Many, Spells, Marks}
 use Rattle.rx_lang.specs.Specification.{Specification, Language}
-use Rattle.rx_lang.specs.Chain.{chain}
 
 -- A vector matches a pattern or does not.
 abbrev pub MatchingIsDecided : Type 0
@@ -36,8 +35,3 @@ module _ {X : Type 0} (Is : ℕ → X → Type 0) where
   -- A marked loop marks the empty word exactly where its expression spells it or marks it within.
   abbrev pub StarMarksEmpty : Type 0
   StarMarksEmpty = (f : Expr) (y z : ℕ) → Marks Is (star (marked f y)) z [] ↔ (((y ≡ z) × Spells Is f []) ⊎ Marks Is f z [])
-
--- A chain marks the words of its length whose letters all are symbol 0, for output 0 and for no other.
-pub record ChainMarks {X : Type 0} (Is : ℕ → X → Type 0) : Type 0 where
-  pub marks : (k : ℕ) (u : List X) → Marks Is (chain k) 0 u ↔ (length u ≡ k + 1) × All (Is 0) u
-  pub no_other : (k y : ℕ) (u : List X) → y ≢ 0 → Marks Is (chain k) y u → ⊥

@@ -3,7 +3,6 @@ pub mod Expression
 pub mod Meaning
 pub mod Specification
 pub mod Tables
-pub mod Chain
 pub mod Laws
 pub mod Examples
 pub mod VectorWords

@@ -5,7 +5,7 @@ ghost use Rattle.std.specs.Prelude.{◌≡◌, ℕ, List};
 ghost use Rattle.rx_lang.specs.Expression.{Expr};
 ghost use Rattle.rx_lang.specs.Meaning.{Spells};
 ghost use Rattle.rx_lang.specs.Specification.{NamedPattern, MatchesSymbol};
-ghost use Rattle.rx_lang.specs.Laws.{ChainMarks, LanguageIsDecided, ManyJoins, MatchingIsDecided, PlusSpells, SequenceMarks, StarMarksEmpty};
+ghost use Rattle.rx_lang.specs.Laws.{LanguageIsDecided, ManyJoins, MatchingIsDecided, PlusSpells, SequenceMarks, StarMarksEmpty};
 
 /// A vector matches a pattern or does not.
 pub fn matching_is_decided()
@@ -39,10 +39,4 @@ pub fn sequences_mark_in_both_parts()
 pub fn loops_mark_the_empty_word_of_their_expression()
     ensures vectors { (symbols : List NamedPattern) → StarMarksEmpty (MatchesSymbol symbols) }
     ensures occurrences { StarMarksEmpty {X = ℕ} (λ s x. s ≡ x) }
-{}
-
-/// A chain marks exactly the words of its length whose letters all are symbol 0, for output 0 and for no other.
-pub fn chain_marks_words_of_its_length()
-    ensures vectors { (symbols : List NamedPattern) → ChainMarks (MatchesSymbol symbols) }
-    ensures occurrences { ChainMarks {X = ℕ} (λ s x. s ≡ x) }
 {}
