@@ -11,7 +11,7 @@ use Rattle.rx_syntax.specs.Machine.{at, next_state, run}
 use Rattle.rx_syntax.specs.Builder.{Frame, Built, empty_frame, joined, chain_of, closed_frame, with_part, act_on, along}
 use Rattle.rx_syntax.proofs.Derived.{ready, derived_run}
 
-along_append : (xs ys : List Lexeme) (s : Option State) (b : Built) → along (xs ++ ys) s b ≡ along ys (run xs s) (along xs s b)
+pub along_append : (xs ys : List Lexeme) (s : Option State) (b : Built) → along (xs ++ ys) s b ≡ along ys (run xs s) (along xs s b)
 along_append [] ys s b = refl
 along_append (x ∷ xs) ys s b = along_append xs ys (next_state s x.kind) (act_on s x b)
 

@@ -7,7 +7,7 @@ use Rattle.rx_syntax.specs.Refusals.{Missing, opened, open_after}
 use Rattle.rx_syntax.specs.declared.kind.Kind.{Kind}
 use Rattle.rx_syntax.specs.declared.kind.Kind.TheVariants.{Bad, Long, Symbol, Output, Expr, Open}
 use Rattle.rx_syntax.specs.declared.spec_code.SpecCode.{SpecCode}
-use Rattle.rx_syntax.specs.declared.spec_code.SpecCode.TheVariants.{BadByte, BadToken, NoLines, NoSymbols, NoOutputs, NoExpression, TooDeep}
+use Rattle.rx_syntax.specs.declared.spec_code.SpecCode.TheVariants.{S1, S2, S6, S7, S8, S9, S14}
 use Rattle.rx_syntax.specs.declared.machine.Due.{Due}
 use Rattle.rx_syntax.specs.declared.machine.Due.TheVariants.{FirstLine, NextLine, NextSymbol, Part, Rest, MarkName}
 use Rattle.rx_syntax.specs.declared.machine.State.{State}
@@ -20,12 +20,12 @@ use Rattle.rx_syntax.proofs.Viable.{same_due}
 -- where a later section's keyword comes too early
 
 data Early : Due → Kind → SpecCode → Type 0 where
-  symbol_no_line : Early FirstLine Symbol NoLines
-  output_no_line : Early FirstLine Output NoLines
-  expr_no_line : Early FirstLine Expr NoLines
-  output_no_symbol : Early NextLine Output NoSymbols
-  expr_no_symbol : Early NextLine Expr NoSymbols
-  expr_no_output : Early NextSymbol Expr NoOutputs
+  symbol_no_line : Early FirstLine Symbol S6
+  output_no_line : Early FirstLine Output S6
+  expr_no_line : Early FirstLine Expr S6
+  output_no_symbol : Early NextLine Output S7
+  expr_no_symbol : Early NextLine Expr S7
+  expr_no_output : Early NextSymbol Expr S8
 
 abbrev EarlyCase : Due → Kind → Option SpecCode → Type 0
 EarlyCase due k None = ⊤
@@ -60,7 +60,7 @@ none_left t e = absurd cc
 
 pub missing_to : (before : List Lexeme) (t : Lexeme) (due : Due) (d : ℕ) (c : SpecCode) → run before (at FirstLine 0) ≡ at due d
     → Missing c before (Some t) → missing due t.kind ≡ Some c
-missing_to before t due d NoLines e (empty, now) =
+missing_to before t due d S6 e (empty, now) =
     let is : due ≡ FirstLine = same_due before due FirstLine d 0 e (ap (λ xs. run xs (at FirstLine 0)) empty) in
     elim now [
       | inl none ↦ none_left t none
@@ -69,16 +69,16 @@ missing_to before t due d NoLines e (empty, now) =
         | inr other ↦ elim other [ inl k ↦ rw (is, k) refl | inr k ↦ rw (is, k) refl ]
       ]
     ]
-missing_to before t due d NoSymbols e (read, now) =
+missing_to before t due d S7 e (read, now) =
     let is : due ≡ NextLine = same_due before due NextLine d 0 e (lines_due before read) in
     elim now [
       | inl none ↦ none_left t none
       | inr some ↦ elim some [ inl k ↦ rw (is, k) refl | inr k ↦ rw (is, k) refl ]
     ]
-missing_to before t due d NoOutputs e (read, now) =
+missing_to before t due d S8 e (read, now) =
     let is : due ≡ NextSymbol = same_due before due NextSymbol d 0 e (symbols_due before read) in
     elim now [ inl none ↦ none_left t none | inr k ↦ rw (is, k) refl ]
-missing_to before t due d NoExpression e (read, now) = none_left t now
+missing_to before t due d S9 e (read, now) = none_left t now
 missing_to before t due d c e h = absurd h
 
 -- how many parentheses are open
@@ -182,13 +182,13 @@ no_long h = elim h [ ]
 
 -- the cases of a step over a token
 pub data Outcome (k : Kind) (m : Option SpecCode) (o : Option State) : Result State SpecCode → Type 0 where
-  is_bad : k ≡ Bad → Outcome k m o (Err BadByte)
+  is_bad : k ≡ Bad → Outcome k m o (Err S1)
   is_early : {c : SpecCode} → k ≢ Bad → m ≡ Some c → Outcome k m o (Err c)
-  is_stuck : k ≢ Bad → m ≡ None → o ≡ None → Outcome k m o (Err BadToken)
-  is_deep : (s : State) → k ≢ Bad → m ≡ None → o ≡ Some s → 200 < s.depth → Outcome k m o (Err TooDeep)
+  is_stuck : k ≢ Bad → m ≡ None → o ≡ None → Outcome k m o (Err S2)
+  is_deep : (s : State) → k ≢ Bad → m ≡ None → o ≡ Some s → 200 < s.depth → Outcome k m o (Err S14)
   is_fine : {s : State} → k ≢ Bad → m ≡ None → o ≡ Some s → s.depth ≤ 200 → Outcome k m o (Ok s)
 
-bad_or_not : (k : Kind) (r : Result State SpecCode) → ((k ≡ Bad) × (not_bad k r ≡ Err BadByte)) ⊎ ((k ≢ Bad) × (not_bad k r ≡ r))
+bad_or_not : (k : Kind) (r : Result State SpecCode) → ((k ≡ Bad) × (not_bad k r ≡ Err S1)) ⊎ ((k ≢ Bad) × (not_bad k r ≡ r))
 bad_or_not Bad r = inl (refl, refl)
 bad_or_not k r = inr ((λ e. cc), refl)
 

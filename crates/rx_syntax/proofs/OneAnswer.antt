@@ -8,7 +8,7 @@ use Rattle.rx_syntax.specs.Grammar.{Syntax, Specifies}
 use Rattle.rx_syntax.specs.Refusals.{number, Stands, Clean, none, next, front, place_of, StandsFirst, IsShaped}
 use Rattle.rx_syntax.specs.declared.kind.Kind.{Kind}
 use Rattle.rx_syntax.specs.declared.spec_code.SpecCode.{SpecCode}
-use Rattle.rx_syntax.specs.declared.spec_code.SpecCode.TheVariants.{BadByte, BadToken, UnknownName, DoubleName, PatternLength, NoLines, NoSymbols, NoOutputs, NoExpression, TooManyLines, TooManySymbols, TooManyOutputs, TooManyLeaves, TooDeep}
+use Rattle.rx_syntax.specs.declared.spec_code.SpecCode.TheVariants.{S1, S2, S3, S4, S5, S6, S7, S8, S9, S10, S11, S12, S13, S14}
 use Rattle.rx_syntax.specs.declared.machine.Due.TheVariants.{FirstLine, NextExpr}
 use Rattle.rx_syntax.specs.declared.machine.State.{State}
 use Rattle.rx_syntax.specs.Machine.{piece_step, end_code}
@@ -102,36 +102,36 @@ cuts (x ∷ a) r (y ∷ b) s e =
 
 code_of : ℕ → SpecCode
 code_of n =
-    if n == 1 then BadByte
-    else (if n == 2 then BadToken
-    else (if n == 3 then UnknownName
-    else (if n == 4 then DoubleName
-    else (if n == 5 then PatternLength
-    else (if n == 6 then NoLines
-    else (if n == 7 then NoSymbols
-    else (if n == 8 then NoOutputs
-    else (if n == 9 then NoExpression
-    else (if n == 10 then TooManyLines
-    else (if n == 11 then TooManySymbols
-    else (if n == 12 then TooManyOutputs
-    else (if n == 13 then TooManyLeaves else TooDeep))))))))))))
+    if n == 1 then S1
+    else (if n == 2 then S2
+    else (if n == 3 then S3
+    else (if n == 4 then S4
+    else (if n == 5 then S5
+    else (if n == 6 then S6
+    else (if n == 7 then S7
+    else (if n == 8 then S8
+    else (if n == 9 then S9
+    else (if n == 10 then S10
+    else (if n == 11 then S11
+    else (if n == 12 then S12
+    else (if n == 13 then S13 else S14))))))))))))
 
 numbered : (c : SpecCode) → code_of (number c) ≡ c
 unfolding code_of
-numbered BadByte = refl
-numbered BadToken = refl
-numbered UnknownName = refl
-numbered DoubleName = refl
-numbered PatternLength = refl
-numbered NoLines = refl
-numbered NoSymbols = refl
-numbered NoOutputs = refl
-numbered NoExpression = refl
-numbered TooManyLines = refl
-numbered TooManySymbols = refl
-numbered TooManyOutputs = refl
-numbered TooManyLeaves = refl
-numbered TooDeep = refl
+numbered S1 = refl
+numbered S2 = refl
+numbered S3 = refl
+numbered S4 = refl
+numbered S5 = refl
+numbered S6 = refl
+numbered S7 = refl
+numbered S8 = refl
+numbered S9 = refl
+numbered S10 = refl
+numbered S11 = refl
+numbered S12 = refl
+numbered S13 = refl
+numbered S14 = refl
 
 same_code : (c d : SpecCode) → number c ≡ number d → c ≡ d
 same_code c d e = sym (numbered c) ∙ ap code_of e ∙ numbered d

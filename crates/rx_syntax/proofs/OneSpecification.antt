@@ -19,7 +19,7 @@ says_one text s r x y =
 shaped : (text : List ℕ) (s : Syntax) → Says text s → IsShaped text
 shaped text s x = record { tokens = x.tokens; are_tokens = x.are_tokens; clean = x.clean; syntax = s; specifies = x.specifies }
 
-says : (text : List ℕ) → (x : IsShaped text) → Says text x.syntax
+pub says : (text : List ℕ) → (x : IsShaped text) → Says text x.syntax
 says text x = record { tokens = x.tokens; are_tokens = x.are_tokens; clean = x.clean; specifies = x.specifies }
 
 by_uses : (text : List ℕ) (limit : ℕ) (s : Syntax) → Says text s → (o : Option (SpecCode × ℕ))

@@ -6,7 +6,7 @@ use Rattle.rx_syntax.specs.Grammar.{Syntax, Specifies}
 use Rattle.rx_syntax.specs.Refusals.{number, IsKind, Continues, Missing, open_after, Stands}
 use Rattle.rx_syntax.specs.declared.kind.Kind.TheVariants.{Bad, Long, Open}
 use Rattle.rx_syntax.specs.declared.spec_code.SpecCode.{SpecCode}
-use Rattle.rx_syntax.specs.declared.spec_code.SpecCode.TheVariants.{BadByte, BadToken, UnknownName, DoubleName, PatternLength, NoLines, NoSymbols, NoOutputs, NoExpression, TooManyLines, TooManySymbols, TooManyOutputs, TooManyLeaves, TooDeep}
+use Rattle.rx_syntax.specs.declared.spec_code.SpecCode.TheVariants.{S1, S2, S3, S4, S5, S6, S7, S8, S9, S10, S11, S12, S13, S14}
 use Rattle.rx_syntax.specs.declared.machine.Due.{Due}
 use Rattle.rx_syntax.specs.declared.machine.Due.TheVariants.{FirstLine, NextLine, NextSymbol, NextOutput, NextExpr}
 use Rattle.rx_syntax.specs.declared.machine.State.{State}
@@ -20,78 +20,78 @@ use Rattle.rx_syntax.proofs.Codes.{missing_from, missing_to, rises, move_of, no_
 -- numbers of codes
 
 at_least_one : (c : SpecCode) → 1 ≤ number c
-at_least_one BadByte = omega arith
-at_least_one BadToken = omega arith
-at_least_one UnknownName = omega arith
-at_least_one DoubleName = omega arith
-at_least_one PatternLength = omega arith
-at_least_one NoLines = omega arith
-at_least_one NoSymbols = omega arith
-at_least_one NoOutputs = omega arith
-at_least_one NoExpression = omega arith
-at_least_one TooManyLines = omega arith
-at_least_one TooManySymbols = omega arith
-at_least_one TooManyOutputs = omega arith
-at_least_one TooManyLeaves = omega arith
-at_least_one TooDeep = omega arith
+at_least_one S1 = omega arith
+at_least_one S2 = omega arith
+at_least_one S3 = omega arith
+at_least_one S4 = omega arith
+at_least_one S5 = omega arith
+at_least_one S6 = omega arith
+at_least_one S7 = omega arith
+at_least_one S8 = omega arith
+at_least_one S9 = omega arith
+at_least_one S10 = omega arith
+at_least_one S11 = omega arith
+at_least_one S12 = omega arith
+at_least_one S13 = omega arith
+at_least_one S14 = omega arith
 
-at_least_two : (c : SpecCode) → c ≢ BadByte → 2 ≤ number c
-at_least_two BadByte h = absurd (h refl)
-at_least_two BadToken h = omega arith
-at_least_two UnknownName h = omega arith
-at_least_two DoubleName h = omega arith
-at_least_two PatternLength h = omega arith
-at_least_two NoLines h = omega arith
-at_least_two NoSymbols h = omega arith
-at_least_two NoOutputs h = omega arith
-at_least_two NoExpression h = omega arith
-at_least_two TooManyLines h = omega arith
-at_least_two TooManySymbols h = omega arith
-at_least_two TooManyOutputs h = omega arith
-at_least_two TooManyLeaves h = omega arith
-at_least_two TooDeep h = omega arith
+at_least_two : (c : SpecCode) → c ≢ S1 → 2 ≤ number c
+at_least_two S1 h = absurd (h refl)
+at_least_two S2 h = omega arith
+at_least_two S3 h = omega arith
+at_least_two S4 h = omega arith
+at_least_two S5 h = omega arith
+at_least_two S6 h = omega arith
+at_least_two S7 h = omega arith
+at_least_two S8 h = omega arith
+at_least_two S9 h = omega arith
+at_least_two S10 h = omega arith
+at_least_two S11 h = omega arith
+at_least_two S12 h = omega arith
+at_least_two S13 h = omega arith
+at_least_two S14 h = omega arith
 
 at_most_deep : (c : SpecCode) → number c ≤ 14
-at_most_deep BadByte = omega arith
-at_most_deep BadToken = omega arith
-at_most_deep UnknownName = omega arith
-at_most_deep DoubleName = omega arith
-at_most_deep PatternLength = omega arith
-at_most_deep NoLines = omega arith
-at_most_deep NoSymbols = omega arith
-at_most_deep NoOutputs = omega arith
-at_most_deep NoExpression = omega arith
-at_most_deep TooManyLines = omega arith
-at_most_deep TooManySymbols = omega arith
-at_most_deep TooManyOutputs = omega arith
-at_most_deep TooManyLeaves = omega arith
-at_most_deep TooDeep = omega arith
+at_most_deep S1 = omega arith
+at_most_deep S2 = omega arith
+at_most_deep S3 = omega arith
+at_most_deep S4 = omega arith
+at_most_deep S5 = omega arith
+at_most_deep S6 = omega arith
+at_most_deep S7 = omega arith
+at_most_deep S8 = omega arith
+at_most_deep S9 = omega arith
+at_most_deep S10 = omega arith
+at_most_deep S11 = omega arith
+at_most_deep S12 = omega arith
+at_most_deep S13 = omega arith
+at_most_deep S14 = omega arith
 
 -- a missing section is a code that stands
 missing_stands : (c : SpecCode) (before : List Lexeme) (now : Option Lexeme) → Missing c before now → Stands c before now
-missing_stands BadByte before now h = absurd h
-missing_stands BadToken before now h = absurd h
-missing_stands TooDeep before now h = absurd h
+missing_stands S1 before now h = absurd h
+missing_stands S2 before now h = absurd h
+missing_stands S14 before now h = absurd h
 missing_stands c before now h = h
 
 -- what a code that stands is
 pub data Kinds (c : SpecCode) (before : List Lexeme) (now : Option Lexeme) : Type 0 where
-  by_byte : c ≡ BadByte → IsKind Bad now → Kinds c before now
-  by_token : c ≡ BadToken → (IsKind Long now ⊎ (Continues before now → ⊥)) → ((other : SpecCode) → Missing other before now → ⊥) → Kinds c before now
-  by_depth : c ≡ TooDeep → IsKind Open now → open_after 0 before ≡ 200 → Kinds c before now
+  by_byte : c ≡ S1 → IsKind Bad now → Kinds c before now
+  by_token : c ≡ S2 → (IsKind Long now ⊎ (Continues before now → ⊥)) → ((other : SpecCode) → Missing other before now → ⊥) → Kinds c before now
+  by_depth : c ≡ S14 → IsKind Open now → open_after 0 before ≡ 200 → Kinds c before now
   by_section : Missing c before now → Kinds c before now
 
 pub kinds : (c : SpecCode) (before : List Lexeme) (now : Option Lexeme) → Stands c before now → Kinds c before now
-kinds BadByte before now h = by_byte refl h
-kinds BadToken before now h = by_token refl h.0 h.1
-kinds TooDeep before now h = by_depth refl h.0 h.1
+kinds S1 before now h = by_byte refl h
+kinds S2 before now h = by_token refl h.0 h.1
+kinds S14 before now h = by_depth refl h.0 h.1
 kinds c before now h = by_section h
 
 module _ (before : List Lexeme) (t : Lexeme) (due : Due) (d : ℕ) (ran : run before (at FirstLine 0) ≡ at due d)
     (within : d ≤ 200) where
   -- Where the machine goes on, no code stands but that of too many parentheses.
   only_deep : (s : State) → t.kind ≢ Bad → missing due t.kind ≡ None → step due t.kind d ≡ Some s → (c : SpecCode) → Kinds c before (Some t)
-      → (c ≡ TooDeep) × (s.depth ≡ suc 200)
+      → (c ≡ S14) × (s.depth ≡ suc 200)
   only_deep s good none goes c (by_byte e k) = absurd (good k)
   only_deep s good none goes c (by_token e h without) = elim h [
     | inl long ↦ absurd (no_long (subst (λ k. Moves due k d s.due s.depth) long (move_of due t.kind d s goes)))
@@ -130,7 +130,7 @@ module _ (before : List Lexeme) (t : Lexeme) (due : Due) (d : ℕ) (ran : run be
       let same : c ≡ other = cc in
       rw same (omega arith)
 
-  not_byte : t.kind ≢ Bad → (other : SpecCode) → Stands other before (Some t) → other ≢ BadByte
+  not_byte : t.kind ≢ Bad → (other : SpecCode) → Stands other before (Some t) → other ≢ S1
   not_byte good other h e = good (subst (λ c. Stands c before (Some t)) e h)
 
   answer : (r : Result State SpecCode) → Outcome t.kind (missing due t.kind) (step due t.kind d) r → Answer r
@@ -141,7 +141,7 @@ module _ (before : List Lexeme) (t : Lexeme) (due : Due) (d : ℕ) (ran : run be
   answer r (is_stuck good none stuck) =
       ((inr (stops before t due d ran stuck), no_early none), λ other h. at_least_two other (not_byte good other h))
   answer r (is_deep s good none goes deep) =
-      let stands : Stands TooDeep before (Some t) = elim (rises (move_of due t.kind d s goes)) [
+      let stands : Stands S14 before (Some t) = elim (rises (move_of due t.kind d s goes)) [
         | inl low ↦ absurd (omega (arith, low, within, deep))
         | inr (k, up) ↦ (
             let full : d ≡ 200 = omega (arith, up, within, deep) in
@@ -157,32 +157,32 @@ module _ (before : List Lexeme) (t : Lexeme) (due : Due) (d : ℕ) (ran : run be
 
 -- the end of the text
 
-bad_is_no_section : (c : SpecCode) (before : List Lexeme) (now : Option Lexeme) → Missing c before now → ◌≡◌ {A = Option SpecCode} (Some BadToken) (Some c) → ⊥
-bad_is_no_section BadToken before now h e = h
-bad_is_no_section BadByte before now h e = h
-bad_is_no_section UnknownName before now h e = h
-bad_is_no_section DoubleName before now h e = h
-bad_is_no_section PatternLength before now h e = h
-bad_is_no_section NoLines before now h e = absurd cc
-bad_is_no_section NoSymbols before now h e = absurd cc
-bad_is_no_section NoOutputs before now h e = absurd cc
-bad_is_no_section NoExpression before now h e = absurd cc
-bad_is_no_section TooManyLines before now h e = h
-bad_is_no_section TooManySymbols before now h e = h
-bad_is_no_section TooManyOutputs before now h e = h
-bad_is_no_section TooManyLeaves before now h e = h
-bad_is_no_section TooDeep before now h e = h
+bad_is_no_section : (c : SpecCode) (before : List Lexeme) (now : Option Lexeme) → Missing c before now → ◌≡◌ {A = Option SpecCode} (Some S2) (Some c) → ⊥
+bad_is_no_section S2 before now h e = h
+bad_is_no_section S1 before now h e = h
+bad_is_no_section S3 before now h e = h
+bad_is_no_section S4 before now h e = h
+bad_is_no_section S5 before now h e = h
+bad_is_no_section S6 before now h e = absurd cc
+bad_is_no_section S7 before now h e = absurd cc
+bad_is_no_section S8 before now h e = absurd cc
+bad_is_no_section S9 before now h e = absurd cc
+bad_is_no_section S10 before now h e = h
+bad_is_no_section S11 before now h e = h
+bad_is_no_section S12 before now h e = h
+bad_is_no_section S13 before now h e = h
+bad_is_no_section S14 before now h e = h
 
 -- Where a section's first statement is due at the end, the machine says so.
 pub missing_at_end : (before : List Lexeme) (due : Due) (d : ℕ) (c : SpecCode) → run before (at FirstLine 0) ≡ at due d → Missing c before None
     → end_code due ≡ Some c
-missing_at_end before due d NoLines e (empty, now) =
+missing_at_end before due d S6 e (empty, now) =
     let is : due ≡ FirstLine = same_due before due FirstLine d 0 e (ap (λ xs. run xs (at FirstLine 0)) empty) in rw is refl
-missing_at_end before due d NoSymbols e (read, now) =
+missing_at_end before due d S7 e (read, now) =
     let is : due ≡ NextLine = same_due before due NextLine d 0 e (lines_due before read) in rw is refl
-missing_at_end before due d NoOutputs e (read, now) =
+missing_at_end before due d S8 e (read, now) =
     let is : due ≡ NextSymbol = same_due before due NextSymbol d 0 e (symbols_due before read) in rw is refl
-missing_at_end before due d NoExpression e (read, now) =
+missing_at_end before due d S9 e (read, now) =
     let is : due ≡ NextOutput = same_due before due NextOutput d 0 e (outputs_due before read) in rw is refl
 missing_at_end before due d c e h = absurd h
 

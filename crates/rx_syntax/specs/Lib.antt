@@ -1,8 +1,4 @@
 pub mod Tokens
-pub mod Lexing
-pub mod Statements
-pub mod Thin
-pub mod Parts
 pub mod Printed
 pub mod Pieces
 pub mod PrintExamples
@@ -12,5 +8,11 @@ pub mod Refusals
 pub mod Machine
 pub mod Uses
 pub mod Accepted
+pub mod SpecRefusal
 pub mod Builder
+pub mod NodeBuilder
+pub mod NodeTables
 pub mod UsesRead
+pub mod NameTables
+pub mod NameReading
+pub mod NameSteps

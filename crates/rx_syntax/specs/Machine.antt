@@ -7,7 +7,7 @@ use Rattle.rx_syntax.specs.declared.machine.Due.{Due}
 use Rattle.rx_syntax.specs.declared.machine.Due.TheVariants.{FirstLine, LineName, MoreNames, NextLine, SymbolName, SymbolEquals, SymbolPattern, SymbolEnd, NextSymbol, OutputName, MoreOutputs, NextOutput, Part, Rest, MarkName, NextExpr}
 use Rattle.rx_syntax.specs.declared.machine.State.{State}
 use Rattle.rx_syntax.specs.declared.spec_code.SpecCode.{SpecCode}
-use Rattle.rx_syntax.specs.declared.spec_code.SpecCode.TheVariants.{BadByte, BadToken, NoLines, NoSymbols, NoOutputs, NoExpression, TooDeep}
+use Rattle.rx_syntax.specs.declared.spec_code.SpecCode.TheVariants.{S1, S2, S6, S7, S8, S9, S14}
 
 -- This is due, and so many parentheses are open.
 abbrev pub at : Due → ℕ → Option State
@@ -49,34 +49,34 @@ step due kind d = None
 
 -- the code where a later section's keyword comes too early
 abbrev pub missing : Due → Kind → Option SpecCode
-missing FirstLine Symbol = Some NoLines
-missing FirstLine Output = Some NoLines
-missing FirstLine Expr = Some NoLines
-missing NextLine Output = Some NoSymbols
-missing NextLine Expr = Some NoSymbols
-missing NextSymbol Expr = Some NoOutputs
+missing FirstLine Symbol = Some S6
+missing FirstLine Output = Some S6
+missing FirstLine Expr = Some S6
+missing NextLine Output = Some S7
+missing NextLine Expr = Some S7
+missing NextSymbol Expr = Some S8
 missing due kind = None
 
 -- the code where the text ends, if it may not
 abbrev pub end_code : Due → Option SpecCode
-end_code FirstLine = Some NoLines
-end_code NextLine = Some NoSymbols
-end_code NextSymbol = Some NoOutputs
-end_code NextOutput = Some NoExpression
+end_code FirstLine = Some S6
+end_code NextLine = Some S7
+end_code NextSymbol = Some S8
+end_code NextOutput = Some S9
 end_code NextExpr = None
-end_code due = Some BadToken
+end_code due = Some S2
 
 -- no token may come, or one that does not open too many parentheses
 abbrev pub not_deep : Option State → Result State SpecCode
-not_deep None = Err BadToken
-not_deep (Some state) = if nat_le state.depth 200 then Ok state else Err TooDeep
+not_deep None = Err S2
+not_deep (Some state) = if nat_le state.depth 200 then Ok state else Err S14
 
 abbrev pub not_missing : Option SpecCode → Result State SpecCode → Result State SpecCode
 not_missing None result = result
 not_missing (Some code) result = Err code
 
 abbrev pub not_bad : Kind → Result State SpecCode → Result State SpecCode
-not_bad Bad result = Err BadByte
+not_bad Bad result = Err S1
 not_bad kind result = result
 
 -- what is due behind a token, or the code that stands there

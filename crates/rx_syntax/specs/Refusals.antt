@@ -5,24 +5,24 @@ use Rattle.rx_syntax.specs.Grammar.{Lines, LinesSymbols, LinesSymbolsOutputs, Sy
 use Rattle.rx_syntax.specs.declared.kind.Kind.{Kind}
 use Rattle.rx_syntax.specs.declared.kind.Kind.TheVariants.{Bad, Long, Symbol, Output, Expr, Open, Close}
 use Rattle.rx_syntax.specs.declared.spec_code.SpecCode.{SpecCode}
-use Rattle.rx_syntax.specs.declared.spec_code.SpecCode.TheVariants.{BadByte, BadToken, UnknownName, DoubleName, PatternLength, NoLines, NoSymbols, NoOutputs, NoExpression, TooManyLines, TooManySymbols, TooManyOutputs, TooManyLeaves, TooDeep}
+use Rattle.rx_syntax.specs.declared.spec_code.SpecCode.TheVariants.{S1, S2, S3, S4, S5, S6, S7, S8, S9, S10, S11, S12, S13, S14}
 
 -- the number of the code
 abbrev pub number : SpecCode → ℕ
-number BadByte = 1
-number BadToken = 2
-number UnknownName = 3
-number DoubleName = 4
-number PatternLength = 5
-number NoLines = 6
-number NoSymbols = 7
-number NoOutputs = 8
-number NoExpression = 9
-number TooManyLines = 10
-number TooManySymbols = 11
-number TooManyOutputs = 12
-number TooManyLeaves = 13
-number TooDeep = 14
+number S1 = 1
+number S2 = 2
+number S3 = 3
+number S4 = 4
+number S5 = 5
+number S6 = 6
+number S7 = 7
+number S8 = 8
+number S9 = 9
+number S10 = 10
+number S11 = 11
+number S12 = 12
+number S13 = 13
+number S14 = 14
 
 -- There is a token here, of this kind.
 abbrev pub IsKind : Kind → Option Lexeme → Type 0
@@ -36,10 +36,10 @@ Continues before (Some t) = (rest : List Lexeme) × (found : Syntax) × Specifie
 
 -- A section's first statement is due, and a later section's keyword or the end comes.
 abbrev pub Missing : SpecCode → List Lexeme → Option Lexeme → Type 0
-Missing NoLines before now = (before ≡ []) × ((now ≡ None) ⊎ (IsKind Symbol now ⊎ (IsKind Output now ⊎ IsKind Expr now)))
-Missing NoSymbols before now = Lines before × ((now ≡ None) ⊎ (IsKind Output now ⊎ IsKind Expr now))
-Missing NoOutputs before now = LinesSymbols before × ((now ≡ None) ⊎ IsKind Expr now)
-Missing NoExpression before now = LinesSymbolsOutputs before × (now ≡ None)
+Missing S6 before now = (before ≡ []) × ((now ≡ None) ⊎ (IsKind Symbol now ⊎ (IsKind Output now ⊎ IsKind Expr now)))
+Missing S7 before now = Lines before × ((now ≡ None) ⊎ (IsKind Output now ⊎ IsKind Expr now))
+Missing S8 before now = LinesSymbols before × ((now ≡ None) ⊎ IsKind Expr now)
+Missing S9 before now = LinesSymbolsOutputs before × (now ≡ None)
 Missing code before now = ⊥
 
 -- how many parentheses are open behind a token of this kind
@@ -55,9 +55,9 @@ open_after depth (t ∷ ts) = open_after (opened t.kind depth) ts
 
 -- The code stands at this token or at the end, behind these tokens.
 abbrev pub Stands : SpecCode → List Lexeme → Option Lexeme → Type 0
-Stands BadByte before now = IsKind Bad now
-Stands BadToken before now = (IsKind Long now ⊎ (Continues before now → ⊥)) × ((code : SpecCode) → Missing code before now → ⊥)
-Stands TooDeep before now = IsKind Open now × (open_after 0 before ≡ 200)
+Stands S1 before now = IsKind Bad now
+Stands S2 before now = (IsKind Long now ⊎ (Continues before now → ⊥)) × ((code : SpecCode) → Missing code before now → ⊥)
+Stands S14 before now = IsKind Open now × (open_after 0 before ≡ 200)
 Stands code before now = Missing code before now
 
 -- No code stands at any of the tokens.

@@ -4,7 +4,7 @@ use Rattle.std.specs.List.{list_any}
 use Rattle.rx_syntax.specs.Lexemes.{Lexeme}
 use Rattle.rx_syntax.specs.Grammar.{Tree, leaf, union, sequence, star, plus, optional, marked, SymbolTokens, Syntax}
 use Rattle.rx_syntax.specs.declared.spec_code.SpecCode.{SpecCode}
-use Rattle.rx_syntax.specs.declared.spec_code.SpecCode.TheVariants.{UnknownName, DoubleName, PatternLength, TooManyLines, TooManySymbols, TooManyOutputs, TooManyLeaves}
+use Rattle.rx_syntax.specs.declared.spec_code.SpecCode.TheVariants.{S3, S4, S5, S10, S11, S12, S13}
 
 -- the name of a line, symbol or output where it is declared, a pattern, a symbol in an expression, an output at a mark
 pub data Use : Type 0 where
@@ -70,17 +70,17 @@ is_declared name before = is_among name before.lines || is_among name before.sym
 
 -- a name where it is declared: declared before, or one too many
 abbrev pub declaration_code : Bool → ℕ → ℕ → SpecCode → Option SpecCode
-declaration_code twice count most too_many = if twice then Some DoubleName else (if nat_le most count then Some too_many else None)
+declaration_code twice count most too_many = if twice then Some S4 else (if nat_le most count then Some too_many else None)
 
 -- the code that stands at a use, where the command allows so many symbols in expressions
 abbrev pub use_code : List ℕ → ℕ → Declared → Use → Option SpecCode
-use_code text limit before (line_use t) = declaration_code (is_declared (word_of text t) before) (length before.lines) 16 TooManyLines
-use_code text limit before (symbol_use t) = declaration_code (is_declared (word_of text t) before) (length before.symbols) 32 TooManySymbols
-use_code text limit before (pattern_use t) = if length (word_of text t) == length before.lines then None else Some PatternLength
-use_code text limit before (output_use t) = declaration_code (is_declared (word_of text t) before) (length before.outputs) 16 TooManyOutputs
+use_code text limit before (line_use t) = declaration_code (is_declared (word_of text t) before) (length before.lines) 16 S10
+use_code text limit before (symbol_use t) = declaration_code (is_declared (word_of text t) before) (length before.symbols) 32 S11
+use_code text limit before (pattern_use t) = if length (word_of text t) == length before.lines then None else Some S5
+use_code text limit before (output_use t) = declaration_code (is_declared (word_of text t) before) (length before.outputs) 16 S12
 use_code text limit before (leaf_use t) =
-    if is_among (word_of text t) before.symbols then (if nat_le limit before.leaves then Some TooManyLeaves else None) else Some UnknownName
-use_code text limit before (mark_use t) = if is_among (word_of text t) before.outputs then None else Some UnknownName
+    if is_among (word_of text t) before.symbols then (if nat_le limit before.leaves then Some S13 else None) else Some S3
+use_code text limit before (mark_use t) = if is_among (word_of text t) before.outputs then None else Some S3
 
 -- what is declared behind a use
 abbrev pub behind_use : List ℕ → Declared → Use → Declared

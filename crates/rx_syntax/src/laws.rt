@@ -1,30 +1,14 @@
-//! Laws of tokens, of thin texts and of first faults.
+//! Laws of tokens, of first faults and of acceptance.
 
-ghost use Rattle.std.specs.Prelude.{◌≡◌, ◌↔◌, ◌⊎◌, ℕ, List, ◌∷◌};
-ghost use Rattle.rx_syntax.specs.Tokens.{Token, Lexes};
-ghost use Rattle.rx_syntax.specs.Lexing.{Begins};
+ghost use Rattle.std.specs.Prelude.{◌≡◌, ◌⊎◌, ℕ, List};
 ghost use Rattle.rx_syntax.specs.Lexemes.{Lexeme, LexemesFrom};
 ghost use Rattle.rx_syntax.specs.Refusals.{StandsFirst, IsShaped};
 ghost use Rattle.rx_syntax.specs.Accepted.{Accepted, Refused};
+ghost use Rattle.rx_syntax.specs.Printed.{printed};
+ghost use Rattle.rx_syntax.specs.SpecRefusal.{SpecRefusal};
+ghost use Rattle.rx_text.specs.declared.place.Place.{Place};
 ghost use Rattle.rx_lang.specs.Specification.{Specification};
 ghost use Rattle.rx_syntax.specs.declared.spec_code.SpecCode.{SpecCode};
-ghost use Rattle.rx_syntax.specs.Thin.{IsThin};
-ghost use Rattle.rx_syntax.specs.declared.thin.ThinSpec.{ThinSpec};
-
-/// A text has at most one list of tokens.
-pub fn texts_have_one_list_of_tokens()
-    ensures { (text : List ℕ) (some others : List Token) → Lexes text some → Lexes text others → some ≡ others }
-{}
-
-/// The tokens of a text are the one at its front and those of the text behind it.
-pub fn tokens_follow_the_first_one()
-    ensures { (text rest : List ℕ) (token : Token) (tokens : List Token) → Begins text token rest → Lexes text (token ∷ tokens) ↔ Lexes rest tokens }
-{}
-
-/// A text is thin in one way at most.
-pub fn texts_are_thin_in_one_way()
-    ensures { (text : List ℕ) (some other : ThinSpec) → IsThin text some → IsThin text other → some ≡ other }
-{}
 
 /// Every text has exactly one list of tokens with kinds and places.
 pub fn texts_have_tokens_with_places()
@@ -50,4 +34,19 @@ pub fn texts_are_accepted_or_refused()
         → Accepted text limit some → Accepted text other others → some ≡ others }
     ensures one_refusal { (text : List ℕ) (limit : ℕ) (code other : SpecCode) (place elsewhere : ℕ)
         → Refused text limit code place → Refused text limit other elsewhere → (code ≡ other) × (place ≡ elsewhere) }
+{}
+
+/// Every text is accepted as a specification or refused with one code at one line and column, and never both.
+pub fn texts_are_accepted_or_refused_at_a_place()
+    ensures either { (text : List ℕ) (limit : ℕ)
+        → ((spec : Specification) × Accepted text limit spec) ⊎ ((code : SpecCode) × (place : Place) × SpecRefusal text limit code place) }
+    ensures exclusive { (text : List ℕ) (limit : ℕ) (spec : Specification) (code : SpecCode) (place : Place)
+        → Accepted text limit spec → SpecRefusal text limit code place → ⊥ }
+    ensures one_refusal { (text : List ℕ) (limit : ℕ) (code other : SpecCode) (place elsewhere : Place)
+        → SpecRefusal text limit code place → SpecRefusal text limit other elsewhere → (code ≡ other) × (place ≡ elsewhere) }
+{}
+
+/// The text that an accepted specification is printed as is accepted as the same specification.
+pub fn printed_texts_are_read_back()
+    ensures { (text : List ℕ) (limit : ℕ) (spec : Specification) → Accepted text limit spec → Accepted (printed spec) limit spec }
 {}

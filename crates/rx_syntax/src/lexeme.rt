@@ -3,11 +3,11 @@
 ghost use Rattle.std.specs.Prelude.{◌≡◌, ◌+◌, ◌<◌, ◌≤◌, length, drop, codes, bytes_eq};
 ghost use Rattle.std.specs.List.{prefix_len};
 ghost use Rattle.rx_text.specs.Name.{is_name_byte};
-ghost use Rattle.rx_syntax.specs.Tokens.{is_place_byte, is_in_comment, is_gap_byte, has_gap};
+ghost use Rattle.rx_syntax.specs.Tokens.{is_place_byte, is_in_comment, is_gap_byte};
 ghost use Rattle.rx_syntax.specs.Lexemes.{size_behind, first_size, word_kind, sign_kind, token_kind, first_kind};
 
+use crate::bytes::{is_blank, is_place_byte, name_length, pattern_length};
 use crate::kind::Kind;
-use crate::token::{is_blank, is_place_byte, name_length, pattern_length};
 use rx_text::name::starts_name;
 
 /// The most bytes that a name has.
@@ -105,13 +105,6 @@ fn is_gap_byte(byte: u8) -> bool
     ensures { result ≡ is_gap_byte byte }
 {
     is_blank(byte) || byte == b'#'
-}
-
-// Whether the text begins with a blank or a comment.
-pub(crate) fn begins_with_gap(text: &[u8]) -> bool
-    ensures { result ≡ has_gap text.now }
-{
-    text.first().is_some_and(|first| is_gap_byte(*first))
 }
 
 // The kind of the token, which begins with this byte.

@@ -1,28 +1,36 @@
 //! The text of a specification.
 #![tactic(auto)]
 
+mod bytes;
+mod declarations;
+mod group;
 mod kind;
 pub mod laws;
 mod lexeme;
 mod machine;
+mod names;
+mod naming;
+#[cfg(test)]
+mod naming_tests;
 mod no_memory;
+mod node_builder;
+mod node_table;
+mod nodes;
 mod print;
 pub mod print_examples;
 #[cfg(test)]
 mod print_tests;
+pub mod read;
+#[cfg(test)]
+mod read_tests;
 pub mod shape;
 #[cfg(test)]
 mod shape_tests;
 mod spec_code;
-mod statements;
-#[cfg(test)]
-mod tests;
-pub mod thin;
-pub mod token;
+mod use_kind;
 
 pub use no_memory::NoMemory;
 pub use print::print_spec;
+pub use read::{ReadSpecFault, SpecFault, read_spec};
 pub use shape::{ShapeFault, check_shape};
 pub use spec_code::SpecCode;
-pub use thin::{ThinSpec, read_thin};
-pub use token::{Lexed, Token, next_token};

@@ -91,15 +91,15 @@ impl State {
         ensures { result ≡ token_step self.due kind self.depth }
     {
         if kind == Kind::Bad {
-            return Err(SpecCode::BadByte);
+            return Err(SpecCode::S1);
         }
         if let Some(code) = missing(self.due, kind) {
             return Err(code);
         }
         match self.step(kind) {
-            None => Err(SpecCode::BadToken),
+            None => Err(SpecCode::S2),
             Some(state) if state.depth <= MOST_OPEN => Ok(state),
-            Some(_) => Err(SpecCode::TooDeep),
+            Some(_) => Err(SpecCode::S14),
         }
     }
 }
@@ -109,9 +109,9 @@ fn missing(due: Due, kind: Kind) -> Option<SpecCode>
     ensures { result ≡ missing due kind }
 {
     match (due, kind) {
-        (Due::FirstLine, Kind::Symbol | Kind::Output | Kind::Expr) => Some(SpecCode::NoLines),
-        (Due::NextLine, Kind::Output | Kind::Expr) => Some(SpecCode::NoSymbols),
-        (Due::NextSymbol, Kind::Expr) => Some(SpecCode::NoOutputs),
+        (Due::FirstLine, Kind::Symbol | Kind::Output | Kind::Expr) => Some(SpecCode::S6),
+        (Due::NextLine, Kind::Output | Kind::Expr) => Some(SpecCode::S7),
+        (Due::NextSymbol, Kind::Expr) => Some(SpecCode::S8),
         _ => None,
     }
 }
@@ -121,11 +121,11 @@ pub(crate) fn end_code(due: Due) -> Option<SpecCode>
     ensures { result ≡ end_code due }
 {
     match due {
-        Due::FirstLine => Some(SpecCode::NoLines),
-        Due::NextLine => Some(SpecCode::NoSymbols),
-        Due::NextSymbol => Some(SpecCode::NoOutputs),
-        Due::NextOutput => Some(SpecCode::NoExpression),
+        Due::FirstLine => Some(SpecCode::S6),
+        Due::NextLine => Some(SpecCode::S7),
+        Due::NextSymbol => Some(SpecCode::S8),
+        Due::NextOutput => Some(SpecCode::S9),
         Due::NextExpr => None,
-        _ => Some(SpecCode::BadToken),
+        _ => Some(SpecCode::S2),
     }
 }

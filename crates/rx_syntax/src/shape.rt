@@ -18,7 +18,7 @@ pub struct ShapeFault {
 
 impl State {
     // What is due behind a piece of the text. Blanks and comments change nothing.
-    fn over(self, kind: Option<Kind>) -> Result<State, SpecCode>
+    pub(crate) fn over(self, kind: Option<Kind>) -> Result<State, SpecCode>
         requires { self.depth ≤ 200 }
         ensures { result ≡ piece_step kind self }
     {
@@ -30,8 +30,8 @@ impl State {
 }
 
 /// Reads the tokens of a text. It is `Ok` exactly where they are a specification, names and numbers aside. A fault is
-/// the first that stands in the text among the codes `BadByte`, `BadToken`, `NoLines`, `NoSymbols`, `NoOutputs`,
-/// `NoExpression` and `TooDeep`, and the lowest of those at one place. It takes no memory.
+/// the first that stands in the text among the codes `S1`, `S2`, `S6`, `S7`, `S8`,
+/// `S9` and `S14`, and the lowest of those at one place. It takes no memory.
 pub fn check_shape(text: &[u8]) -> Result<(), ShapeFault>
     ensures shaped { OnOk result (IsShaped text.now) }
     ensures fault { IfErr result (λ fault. StandsFirst text.now fault.code fault.at) }
