@@ -17,3 +17,6 @@ pub mod Built
 pub mod Uniting
 pub mod Statements
 pub mod Sized
+pub mod LeafTotals
+pub mod Weights
+pub mod SymbolBounds

@@ -21,12 +21,12 @@ use Rattle.star_normal.proofs.Growing.{is_hit, not_hit}
 use Rattle.star_normal.proofs.Uniting.{count_uses}
 
 -- the sum of the first n values
-abbrev upto : (ℕ → ℕ) → ℕ → ℕ
+abbrev pub upto : (ℕ → ℕ) → ℕ → ℕ
 upto f zero = 0
 upto f (suc n) = upto f n + f n
 
 -- a number that stands in the list at most once adds at most its value
-not_equal : (x n : ℕ) → (n ≡ x → ⊥) → (x == n) ≡ false
+pub not_equal : (x n : ℕ) → (n ≡ x → ⊥) → (x == n) ≡ false
 not_equal x n ne = grind (arith, ne)
 
 none_by : (f : ℕ → ℕ) (n x : ℕ) (xs : List ℕ) → (n ≡ x) ⊎ (n ≡ x → ⊥) → count_by (λ x. x == n) (x ∷ xs) ≡ 0 → ((count_by (λ x. x == n) xs ≡ 0) → sum_by (λ x. cond (x == n) (f x) 0) xs ≡ 0)
@@ -37,7 +37,7 @@ none_by f n x xs (inr ne) h rec =
     let off : cond (x == n) (f x) 0 ≡ 0 = ap (λ b. cond b (f x) 0) test in
     omega (arith, off, not_hit x n ne, h, sum_by-cons (λ y. cond (y == n) 1 0) x xs, sum_by-cons (λ y. cond (y == n) (f y) 0) x xs, rec (omega (arith, not_hit x n ne, h, sum_by-cons (λ y. cond (y == n) 1 0) x xs)))
 
-none_adds : (f : ℕ → ℕ) (n : ℕ) (xs : List ℕ) → count_by (λ x. x == n) xs ≡ 0 → sum_by (λ x. cond (x == n) (f x) 0) xs ≡ 0
+pub none_adds : (f : ℕ → ℕ) (n : ℕ) (xs : List ℕ) → count_by (λ x. x == n) xs ≡ 0 → sum_by (λ x. cond (x == n) (f x) 0) xs ≡ 0
 none_adds f n [] h = refl
 none_adds f n (x ∷ xs) h = none_by f n x xs (cases_eq n x) h (λ k. none_adds f n xs k)
 
@@ -73,7 +73,7 @@ split_one f n x (inr (inr lt)) =
     let c : (x == n) ≡ false = grind arith in
     rw (a, b, c) (omega arith)
 
-split_all : (f : ℕ → ℕ) (n : ℕ) (xs : List ℕ) → sum_by (λ x. cond (nat_lt x (n + 1)) (f x) 0) xs
+pub split_all : (f : ℕ → ℕ) (n : ℕ) (xs : List ℕ) → sum_by (λ x. cond (nat_lt x (n + 1)) (f x) 0) xs
     ≡ sum_by (λ x. cond (nat_lt x n) (f x) 0) xs + sum_by (λ x. cond (x == n) (f x) 0) xs
 split_all f n [] = refl
 split_all f n (x ∷ xs) = omega (
@@ -85,7 +85,7 @@ split_all f n (x ∷ xs) = omega (
   split_all f n xs,
 )
 
-none_below : (f : ℕ → ℕ) (xs : List ℕ) → sum_by (λ x. cond (nat_lt x 0) (f x) 0) xs ≡ 0
+pub none_below : (f : ℕ → ℕ) (xs : List ℕ) → sum_by (λ x. cond (nat_lt x 0) (f x) 0) xs ≡ 0
 none_below f [] = refl
 none_below f (x ∷ xs) = let a : nat_lt x 0 ≡ false = grind arith in
     omega (arith, sum_by-cons (λ x. cond (nat_lt x 0) (f x) 0) x xs, ap (λ b. cond b (f x) 0) a, none_below f xs)
@@ -97,10 +97,10 @@ below_upto f (suc n) xs once = let e : suc n ≡ n + 1 = omega arith in
     let all : sum_by (λ x. cond (nat_lt x (suc n)) (f x) 0) xs ≡ sum_by (λ x. cond (nat_lt x (n + 1)) (f x) 0) xs = ap (λ m. sum_by (λ x. cond (nat_lt x m) (f x) 0) xs) e in
     omega (arith, all, split_all f n xs, below_upto f n xs (λ k h. once k (omega arith)), once_adds f n xs (once n (omega arith)))
 
-sum_pair : (f : ℕ → ℕ) (l r : ℕ) → sum_by f (l ∷ r ∷ []) ≡ f l + f r
+pub sum_pair : (f : ℕ → ℕ) (l r : ℕ) → sum_by f (l ∷ r ∷ []) ≡ f l + f r
 sum_pair f l r = omega arith
 
-flat_sum : (f : ℕ → ℕ) (nodes : List Node) → sum_by f (flat_map (λ node. parts node.kind) nodes) ≡ sum_by (λ node. sum_by f (parts node.kind)) nodes
+pub flat_sum : (f : ℕ → ℕ) (nodes : List Node) → sum_by f (flat_map (λ node. parts node.kind) nodes) ≡ sum_by (λ node. sum_by f (parts node.kind)) nodes
 flat_sum f [] = refl
 flat_sum f (x ∷ nodes) = omega (arith, sum_by-append f (parts x.kind) (flat_map (λ node. parts node.kind) nodes), sum_by-cons (λ node. sum_by f (parts node.kind)) x nodes, flat_sum f nodes)
 
@@ -117,7 +117,7 @@ below_more n m (Leaf s) le h = tt
 below_more n m (Seq l r) le h = (omega (arith, h.0), omega (arith, h.1))
 below_more n m (Alt l r) le h = (omega (arith, h.0), omega (arith, h.1))
 
-within_one : (f : ℕ → ℕ) (i x : ℕ) → x < i → cond (nat_lt x i) (f x) 0 ≡ f x
+pub within_one : (f : ℕ → ℕ) (i x : ℕ) → x < i → cond (nat_lt x i) (f x) 0 ≡ f x
 within_one f i x h = let a : nat_lt x i ≡ true = grind arith in ap (λ b. cond b (f x) 0) a
 
 within_parts : (f : ℕ → ℕ) (i : ℕ) (kind : NodeKind) → PartsBelow i kind → sum_by (λ x. cond (nat_lt x i) (f x) 0) (parts kind) ≡ sum_by f (parts kind)
@@ -145,7 +145,8 @@ module _ (table : TreeTable) (t : IsTree table) where
   pub ordered : (k : ℕ) (node : Node) → slice_get table.nodes k ≡ Some node → PartsBelow k node.kind
   ordered k node e = parts_of k node.kind (t.children_before k node e)
 
-  node_form : (k : ℕ) (node : Node) → slice_get table.nodes k ≡ Some node → form_at (forms table.nodes) k ≡ form_of (forms table.nodes) node
+  -- each node stands for the tree of its parts
+  pub node_form : (k : ℕ) (node : Node) → slice_get table.nodes k ≡ Some node → form_at (forms table.nodes) k ≡ form_of (forms table.nodes) node
   node_form k node e =
       let within : k < length table.nodes = slice_get_within table.nodes k node e in
       let size : length (take k table.nodes) ≡ k = omega (arith, length-take k table.nodes) in
@@ -157,7 +158,7 @@ module _ (table : TreeTable) (t : IsTree table) where
       (λ j h. sym (ap (λ xs. form_at (forms xs) j) whole ∙ made_more form_of (leaf bare 0) (take k table.nodes) (node ∷ drop (suc k) table.nodes) j (omega (arith, size))))
       (flags_of node) node.kind (ordered k node e)
 
-  node_size : (k : ℕ) (node : Node) → slice_get table.nodes k ≡ Some node → size_at table.nodes k ≡ leaf_one node.kind + sum_by (size_at table.nodes) (parts node.kind)
+  pub node_size : (k : ℕ) (node : Node) → slice_get table.nodes k ≡ Some node → size_at table.nodes k ≡ leaf_one node.kind + sum_by (size_at table.nodes) (parts node.kind)
   node_size k node e = ap (λ x. length (leaves x)) (node_form k node e) ∙ leaves_by (forms table.nodes) (flags_of node) node.kind
 
   leaf_more : (i : ℕ) (node : Node) → slice_get table.nodes i ≡ Some node → sum_by (of_node leaf_one) (take (i + 1) table.nodes) ≡ sum_by (of_node leaf_one) (take i table.nodes) + leaf_one node.kind
@@ -173,7 +174,7 @@ module _ (table : TreeTable) (t : IsTree table) where
   node_at i h = (get_or table.nodes i plain, slice_get-get_or table.nodes i plain h)
 
   -- what the first nodes add: their leaves, and their parts once more
-  sums : (i : ℕ) → i ≤ length table.nodes
+  pub sums : (i : ℕ) → i ≤ length table.nodes
       → upto (size_at table.nodes) i ≡ sum_by (of_node leaf_one) (take i table.nodes) + sum_by (λ x. sum_by (size_at table.nodes) (parts x.kind)) (take i table.nodes)
   sums zero h = refl
   sums (suc i) h =
@@ -189,7 +190,7 @@ module _ (table : TreeTable) (t : IsTree table) where
         ap (λ m. sum_by (λ x. sum_by (size_at table.nodes) (parts x.kind)) (take m table.nodes)) e,
       )
 
-  within_all : (f : ℕ → ℕ) (i m : ℕ) → m ≤ i + 1 → m ≤ length table.nodes
+  pub within_all : (f : ℕ → ℕ) (i m : ℕ) → m ≤ i + 1 → m ≤ length table.nodes
       → sum_by (λ x. sum_by (λ y. cond (nat_lt y i) (f y) 0) (parts x.kind)) (take m table.nodes) ≡ sum_by (λ x. sum_by f (parts x.kind)) (take m table.nodes)
   within_all f i zero h le = refl
   within_all f i (suc m) h le =

@@ -1,8 +1,11 @@
--- Expressions and their normal forms.
+-- Expressions and their normal forms, and a table of nodes.
 use Rattle.std.specs.Prelude.{true, false, List, [], ◌∷◌}
 use Rattle.rx_lang.specs.Expression.{Expr, symbol, sequence, union, star, plus, optional, marked}
+use Rattle.star_normal.specs.declared.node.Node.{Node}
+use Rattle.star_normal.specs.declared.node.NodeKind.TheVariants.{Leaf, Seq, Alt}
 use Rattle.star_normal.specs.Trees.{FlaggedTree, leaf, seq, alt}
 use Rattle.star_normal.specs.Normal.{bare, held, looped, emptied, marking, united}
+use Rattle.star_normal.specs.Tops.{plain_node}
 
 abbrev pub a : Expr
 a = symbol 0
@@ -56,4 +59,15 @@ marked_rows = row (star (marked a 0)) (leaf (looped true (marking 0 false bare))
     ∷ row (star (sequence (marked (star a) 0) (star b))) (alt (looped true bare) (leaf (marking 0 true bare) 0) (leaf bare 1))
     ∷ row (marked (plus (union (star (star a)) (optional b))) 0) (alt (marking 0 true (looped true bare)) (leaf bare 0) (leaf bare 1))
     ∷ row (united (marked a 0) (b ∷ c ∷ [])) (alt bare (alt bare (leaf (marking 0 false bare) 0) (leaf bare 1)) (leaf bare 2))
+    ∷ []
+
+-- the nodes of (a b | c) | a, where the last node but one is the second a
+abbrev pub weighed_nodes : List Node
+weighed_nodes = plain_node (Leaf 0) false
+    ∷ plain_node (Leaf 1) false
+    ∷ plain_node (Seq 0 1) false
+    ∷ plain_node (Leaf 2) false
+    ∷ plain_node (Alt 2 3) false
+    ∷ plain_node (Leaf 0) false
+    ∷ plain_node (Alt 4 5) false
     ∷ []

@@ -1,6 +1,6 @@
 // From a specification to its normal form.
 
-ghost use Rattle.std.specs.Prelude.{◌≡◌, ℕ, Bool, true, false, ◌<◌, ◌≤◌, ◌+◌, ◌*◌, List, length, map, flat_map, count_by, IfOk};
+ghost use Rattle.std.specs.Prelude.{◌≡◌, ℕ, Bool, true, false, ◌<◌, ◌≤◌, ◌+◌, ◌*◌, All, List, length, map, flat_map, count_by, IfOk};
 ghost use Rattle.rx_lang.specs.Tables.{specification, trees, tree_at};
 ghost use Rattle.rx_lang.specs.Specification.{MatchesSymbol};
 ghost use Rattle.star_normal.specs.Trees.{leaves};
@@ -20,8 +20,8 @@ use std::alloc::Global;
 
 /// The normal form of the union of all statements. It spells what some statement spells, and it has the language of each
 /// output. From left to right its leaves are the occurrences of symbols in the order of the text, and with each occurrence
-/// as a letter of its own it spells and marks the same words as the union of the statements. It takes time and memory in
-/// proportion to the nodes of the expressions.
+/// as a letter of its own it spells and marks the same words as the union of the statements. Each symbol of a leaf is one of
+/// the specification. It takes time and memory in proportion to the nodes of the expressions.
 ///
 /// # Errors
 ///
@@ -31,6 +31,7 @@ pub fn normalize(alloc: Global, spec: &Spec) -> Result<Tree, NoMemory>
     ensures languages { IfOk result (λ tree. HasLanguages (MatchesSymbol spec.now.symbols) (specification spec.now).statements (whole tree)) }
     ensures letters { IfOk result (λ tree. HasLanguages IsItself (all_numbered 0 (specification spec.now).statements) (tree_numbered 0 (whole tree))) }
     ensures leaves { IfOk result (λ tree. leaves (whole tree) ≡ flat_map occurrences (specification spec.now).statements) }
+    ensures symbols { IfOk result (λ tree. All (λ s. s < length spec.now.symbols) (leaves (whole tree))) }
     ensures nodes { IfOk result (λ tree. length tree.nodes + 1 ≡ 2 * count_by (λ node. is_leaf node.kind) tree.nodes) }
 {
     normal_tree(alloc, spec.nodes(), spec.exprs())

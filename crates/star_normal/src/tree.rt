@@ -1,6 +1,6 @@
 // The normal form of a specification.
 
-ghost use Rattle.std.specs.Prelude.{◌≡◌, IfOk};
+ghost use Rattle.std.specs.Prelude.{◌≡◌, ◌≤◌, length};
 ghost use Rattle.star_normal.specs.Tables.{IsTree};
 
 use crate::node::Node;
@@ -37,6 +37,7 @@ impl Tree {
     /// The nodes, each behind its parts.
     pub fn nodes(&self) -> &[Node]
         ensures nodes { result.now ≡ self.now.nodes }
+        ensures few { length self.now.nodes ≤ 8191 }
         ensures tree { IsTree self.now }
     {
         &self.nodes

@@ -1,4 +1,4 @@
-use Rattle.std.proofs.Common.{◌≡◌, sym, false, flat_map}
+use Rattle.std.proofs.Common.{◌≡◌, ◌<◌, sym, false, flat_map, length, All}
 use Rattle.std.proofs.lemmas.Result.{IfOk-weaker}
 use Rattle.rx_lang.specs.Specification.{MatchesSymbol}
 use Rattle.rx_lang.specs.Tables.{specification}
@@ -9,6 +9,7 @@ use Rattle.star_normal.specs.Tables.{whole}
 use Rattle.star_normal.specs.Building.{union_of}
 use Rattle.star_normal.specs.Laws.{HasLanguages}
 use Rattle.star_normal.proofs.Statements.{are_statements, union_languages, union_letters, union_leaves, some_statements}
+use Rattle.star_normal.proofs.SymbolBounds.{symbols_below}
 use Rattle.star_normal.proofs.normal_form.normalize.Goals as goal
 
 pub normal_tree-requires : goal.normal_tree-requires
@@ -37,3 +38,9 @@ returns-clause-leaves c =
     (λ tree. leaves (whole tree) ≡ flat_map occurrences (specification c.args.spec.now).statements)
     (λ tree e. rw e (union_leaves (specification c.args.spec.now).statements (some_statements c.args.spec.now c.nodes.ensures.specification)))
     (returns-clause-normal c)
+
+pub returns-clause-symbols : goal.returns-clause-symbols
+returns-clause-symbols c =
+    IfOk-weaker c.normal_tree.result (λ tree. leaves (whole tree) ≡ flat_map occurrences (specification c.args.spec.now).statements)
+    (λ tree. All (λ s. s < length c.args.spec.now.symbols) (leaves (whole tree)))
+    (λ tree e. rw e (symbols_below c.args.spec.now c.nodes.ensures.specification)) (returns-clause-leaves c)
