@@ -14,3 +14,5 @@ pub mod LogicEquations
 pub mod LogicLevels
 pub mod LogicLaws
 pub mod RegisterCircuit
+pub mod SureLevels
+pub mod ToldNets

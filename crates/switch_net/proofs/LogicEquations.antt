@@ -34,7 +34,7 @@ module _ (s : Setting) (q v : Values) where
   }
 
   -- a storage node open to a fixed net has the net's level
-  source_joined : (net clock source : ℕ) (level : Bool) → net < circuit.nets → kind net ≡ stored clock source → v clock ≡ true
+  pub source_joined : (net clock source : ℕ) (level : Bool) → net < circuit.nets → kind net ≡ stored clock source → v clock ≡ true
       → fixed_level circuit.pads drives source ≡ Some level → Source circuit drives v level net
   source_joined net clock source level below k h e = record {
     from = net;
@@ -78,16 +78,16 @@ module _ (s : Setting) (q v : Values) where
   closed_fixed : (clock source : ℕ) → v clock ≡ false → v clock ≡ true → kind source ≡ fixed
   closed_fixed clock source low high = absurd (cc)
 
-  held_free : (net clock source : ℕ) (level : Bool) → kind net ≡ stored clock source → v clock ≡ false
+  pub held_free : (net clock source : ℕ) (level : Bool) → kind net ≡ stored clock source → v clock ≡ false
       → Source circuit drives v level net → ⊥
   held_free net clock source level k low led =
       let high = (alone_level s v net clock source level k (closed_fixed clock source low) led).1 in cc
 
-  held_not_high : (net clock source : ℕ) → kind net ≡ stored clock source → v clock ≡ false → IsPulledHigh circuit drives v net → ⊥
+  pub held_not_high : (net clock source : ℕ) → kind net ≡ stored clock source → v clock ≡ false → IsPulledHigh circuit drives v net → ⊥
   held_not_high net clock source k low (inl led) = held_free net clock source true k low led
   held_not_high net clock source k low (inr loaded) = alone_loaded s v net clock source k (closed_fixed clock source low) loaded
 
-  held_alone : (net m clock source : ℕ) → kind net ≡ stored clock source → v clock ≡ false → Grouped circuit drives v net m → m ≡ net
+  pub held_alone : (net m clock source : ℕ) → kind net ≡ stored clock source → v clock ≡ false → Grouped circuit drives v net m → m ≡ net
   held_alone net m clock source k low g = alone s v net m clock source k (closed_fixed clock source low) g
 
   held_equation : (net clock source : ℕ) → kind net ≡ stored clock source → v clock ≡ false

@@ -35,7 +35,7 @@ both_alike true false x y rest rest' same e = e
 both_alike false r x y rest rest' same e = e
 
 -- two values pull a net down alike if they agree on the inputs of its pull-downs
-pulls_alike : (ground : ℕ) (v w : Values) (net : ℕ) (devices : List Device)
+pub pulls_alike : (ground : ℕ) (v w : Values) (net : ℕ) (devices : List Device)
     → ((input a : Net) → Contains devices (Pass input a (record { 0 = ground })) → a.0 ≡ net → v input.0 ≡ w input.0)
     → pulls_down ground devices v net ≡ pulls_down ground devices w net
 pulls_alike ground v w net [] same = refl

@@ -18,7 +18,7 @@ module _ (circuit : Circuit) (drives : List Bool) (v : Values) where
   abbrev Group : ℕ → ℕ → Type 0
   Group = Grouped circuit drives v
 
-  group_free : (a m : ℕ) → IsFree circuit drives a → Group a m → IsFree circuit drives m
+  pub group_free : (a m : ℕ) → IsFree circuit drives a → Group a m → IsFree circuit drives m
   group_free _ _ free (here a) = free
   group_free _ _ free (step a b m j f r) = group_free b m f r
 

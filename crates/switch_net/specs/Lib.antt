@@ -7,3 +7,5 @@ pub mod Validity
 pub mod Examples
 pub mod SettlingLaws
 pub mod SameNetworks
+pub mod Ternary
+pub mod TernaryLogic

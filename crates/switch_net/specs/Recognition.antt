@@ -1,11 +1,13 @@
 -- What a compiled circuit promises: its pads, and at each output the language of that output.
-use Rattle.std.specs.Prelude.{◌≡◌, ◌↔◌, ℕ, Bool, true, List, [], ◌∷◌, ◌++◌, Some, None, All, length, map, take, slice_get}
+use Rattle.std.specs.Prelude.{◌≡◌, ◌↔◌, ◌⊎◌, ℕ, Bool, true, List, [], ◌∷◌, ◌++◌, Some, None, All, length, map, take, slice_get}
 use Rattle.rx_text.specs.Role.{NamedRole}
 use Rattle.rx_text.specs.declared.pad_name.Role.{Role}
 use Rattle.rx_text.specs.declared.pad_name.Role.TheVariants.{Vdd, Gnd, Phi1, Phi2, Reset, Input, Output}
 use Rattle.switch_net.specs.Circuit.{Circuit}
 use Rattle.switch_net.specs.Settling.{Values}
 use Rattle.switch_net.specs.Clock.{Run}
+use Rattle.switch_net.specs.Ternary.{Levels, RunLevels, nothing_known}
+use Rattle.switch_net.specs.declared.network.Level.TheVariants.{Low, High}
 use Rattle.switch_net.specs.declared.network.Pad.{Pad}
 
 -- a supply, a clock or the reset
@@ -54,3 +56,11 @@ pub record Recognises (circuit : Circuit) (width : ℕ) (language : ℕ → List
       → (vs : List Values) → Run circuit q lines u vs
       → (t output net : ℕ) (v : Values) → slice_get vs t ≡ Some v → slice_get (output_nets circuit.pads) output ≡ Some net
       → (v net ≡ true) ↔ language output (take t u)
+
+-- In a ternary run from charges of which nothing is known each output is high or low after t clocks, and high exactly where
+-- the first t vectors lie in its language.
+abbrev pub ShowsSurely : Circuit → ℕ → (ℕ → List (List Bool) → Type 0) → Type 0
+ShowsSurely circuit width language = (lines : List Bool) (u : List (List Bool)) → length lines ≡ width → IsWordOf width u
+    → (ls : List Levels) → RunLevels circuit nothing_known lines u ls
+    → (t output net : ℕ) (l : Levels) → slice_get ls t ≡ Some l → slice_get (output_nets circuit.pads) output ≡ Some net
+    → ((l net ≡ High) × language output (take t u)) ⊎ ((l net ≡ Low) × (language output (take t u) → ⊥))

@@ -86,7 +86,6 @@ impl Network {
     /// net, else `MissingPad` where a supply, a clock or the reset has no pad.
     pub fn new(nets: u32, pads: Vec<Pad>, devices: Vec<Device>) -> Result<Network, BadNetwork>
         requires pads_fit { length pads.items < 2 ^ 32 }
-        requires devices_fit { length devices.items < 2 ^ 32 }
         ensures fault { result_err result ≡ first_fault nets pads.items devices.items }
         ensures ok { IfOk result
             (λ network. network ≡ record { nets = nets; pads = pads.items; devices = devices.items }) }
@@ -133,7 +132,6 @@ impl Network {
 /// The number of the first part that names a net not below `nets`, pads counted first and then devices.
 fn first_outside(nets: u32, pads: &[Pad], devices: &[Device]) -> Option<u64>
     requires pads_fit { length pads.now < 2 ^ 32 }
-    requires devices_fit { length devices.now < 2 ^ 32 }
     ensures { result ≡ first_outside nets pads.now devices.now }
 {
     match first_pad_outside(nets, pads) {

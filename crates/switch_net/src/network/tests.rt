@@ -56,7 +56,6 @@ fn fault_of(
     devices: &[Device],
 ) -> Result<Option<BadNetwork>, Fail>
     requires pads_fit { length pads.now < 2 ^ 32 }
-    requires devices_fit { length devices.now < 2 ^ 32 }
 {
     let network = Network::new(nets, pads.to_vec(alloc)?, devices.to_vec(alloc)?);
     Ok(network.err())
