@@ -16,19 +16,19 @@ use Rattle.nor_net.proofs.Order.{evaluation_gives}
 
 module _ (settles_as : SettlesAsLogic) (settles : LogicSettles) (netlist : Netlist) (valid : IsNetlist netlist) where
   -- no clock but this one is high
-  abbrev IsOnly : Drive → Role → Type 0
+  abbrev pub IsOnly : Drive → Role → Type 0
   IsOnly drive clock = (role : Role) → (role ≡ Phi1) ⊎ (role ≡ Phi2) → is_high drive role ≡ true → role ≡ clock
 
   module _ (drive : Drive) (clock : Role) (only : IsOnly drive clock) (order : List ℕ) (ordered : IsOrder netlist clock order) where
     open_ordered : All (λ transfer. is_high drive transfer.clock ≡ true → place order transfer.from < place order transfer.to) netlist.transfers
     open_ordered k d lt high = ordered.transfers k d lt (only _ (valid.transfers k d lt).clocked high)
 
-    phase_exists : (q : Values) → (v : Values) × Settled (switch_form netlist) (drives_of drive netlist.pads) q v
+    pub phase_exists : (q : Values) → (v : Values) × Settled (switch_form netlist) (drives_of drive netlist.pads) q v
     phase_exists q =
         settles (switch_form netlist) (low netlist valid) (kind_of netlist) (is_logic netlist valid) (drives_of drive netlist.pads)
         (drives_sized drive drive.lines netlist.pads) (place order) (is_levelled netlist valid drive order ordered.gates open_ordered) q
 
-    phase_gives : (q v : Values) (state : List Bool) → Settled (switch_form netlist) (drives_of drive netlist.pads) q v
+    pub phase_gives : (q v : Values) (state : List Bool) → Settled (switch_form netlist) (drives_of drive netlist.pads) q v
         → Lists netlist.nets state q
         → Lists netlist.nets (evaluated netlist drive order (driven netlist.pads (drives_of drive netlist.pads) state)) v
     phase_gives q v state h lists =
@@ -38,12 +38,12 @@ module _ (settles_as : SettlesAsLogic) (settles : LogicSettles) (netlist : Netli
         evaluation_gives netlist valid drive order ordered.gates open_ordered ordered.complete q v follows state lists
         (recursion_from_All (λ net. net < netlist.nets) order ordered.below)
 
-  only_phi1 : (reset : Bool) (lines : List Bool) (phi1 : Bool) → IsOnly (phase reset lines phi1 false) Phi1
+  pub only_phi1 : (reset : Bool) (lines : List Bool) (phi1 : Bool) → IsOnly (phase reset lines phi1 false) Phi1
   only_phi1 reset lines phi1 role (inl e) high = e
   only_phi1 reset lines phi1 role (inr e) high =
       let f : is_high (phase reset lines phi1 false) Phi2 ≡ true = rw e at high in absurd (cc)
 
-  only_phi2 : (reset : Bool) (lines : List Bool) (phi2 : Bool) → IsOnly (phase reset lines false phi2) Phi2
+  pub only_phi2 : (reset : Bool) (lines : List Bool) (phi2 : Bool) → IsOnly (phase reset lines false phi2) Phi2
   only_phi2 reset lines phi2 role (inr e) high = e
   only_phi2 reset lines phi2 role (inl e) high =
       let f : is_high (phase reset lines false phi2) Phi1 ≡ true = rw e at high in absurd (cc)

@@ -43,7 +43,7 @@ fixed_below (pad ∷ pads) n net all e =
     ]
 
 -- each transfer is the one that is found at its target
-finds_at : (transfers : List Transfer) → AllPairs (λ a b. a.to ≢ b.to) transfers → (k : ℕ) (d : Transfer) → k < length transfers
+pub finds_at : (transfers : List Transfer) → AllPairs (λ a b. a.to ≢ b.to) transfers → (k : ℕ) (d : Transfer) → k < length transfers
     → transfer_to transfers (slice_index_or transfers k d).to ≡ Some (slice_index_or transfers k d)
 finds_at [] pairs k d lt = absurd (omega arith)
 finds_at (first ∷ rest) pairs zero d lt = rw (eq-eqb first.to first.to refl) refl
@@ -78,7 +78,7 @@ module _ (netlist : Netlist) (valid : IsNetlist netlist) where
   pads_below : AllByRecursion (λ (pad : Pad). pad.net.0 < netlist.nets) netlist.pads
   pads_below = recursion_from_All (λ (pad : Pad). pad.net.0 < netlist.nets) netlist.pads valid.pads.pads_below
 
-  role_below : (role : Role) → HasRole netlist.pads role → net_of netlist.pads role < netlist.nets
+  pub role_below : (role : Role) → HasRole netlist.pads role → net_of netlist.pads role < netlist.nets
   role_below role h = first_below netlist.pads netlist.nets _ role pads_below (role_on netlist.pads role (kinds.pads_own netlist valid) h)
 
   pub clock_below : (transfer : Transfer) → IsTransfer netlist transfer → net_of netlist.pads transfer.clock < netlist.nets

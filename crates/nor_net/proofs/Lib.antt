@@ -7,3 +7,10 @@ pub mod Order
 pub mod Clocks
 pub mod Building
 pub mod ExampleRegister
+pub mod Solutions
+pub mod Lifting
+pub mod FewPads
+pub mod Orders
+pub mod KnownNets
+pub mod KnownRuns
+pub mod SureOutputs

@@ -23,7 +23,7 @@ use Rattle.nor_net.proofs.FormLogic.{low}
 
 -- ---- places in an order
 
-place_within : (order : List ℕ) (net k : ℕ) → k < length order → slice_index_or order k net ≡ net → place order net < length order
+pub place_within : (order : List ℕ) (net k : ℕ) → k < length order → slice_index_or order k net ≡ net → place order net < length order
 place_within [] net k lt e = absurd (omega arith)
 place_within (first ∷ order) net k lt e =
     elim (cases_Bool (first == net)) [
@@ -68,7 +68,7 @@ any_alike : (values : List Bool) (w : Values) (inputs : List ℕ) → AllByRecur
 any_alike values w [] h = refl
 any_alike values w (input ∷ inputs) h = ap₂ ◌||◌ h.0 (any_alike values w inputs h.1)
 
-pulled_alike : (values : List Bool) (w : Values) (net : ℕ) (gates : List NorGate)
+pub pulled_alike : (values : List Bool) (w : Values) (net : ℕ) (gates : List NorGate)
     → AllByRecursion (λ (g : NorGate). g.out ≡ net → AllByRecursion (λ input. value_at values input ≡ w input) g.inputs) gates
     → is_pulled gates values net ≡ pulled_by gates w net
 pulled_alike values w net [] h = refl

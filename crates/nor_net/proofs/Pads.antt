@@ -76,7 +76,7 @@ role_back Reset = refl
 role_back Input = refl
 role_back Output = refl
 
-same_role : (a b : Role) → is_same_role a b ≡ true → a ≡ b
+pub same_role : (a b : Role) → is_same_role a b ≡ true → a ≡ b
 same_role a b e = sym (role_back a) ∙ ap role_at (eqb-true (role_number a) (role_number b) e) ∙ role_back b
 
 -- some pad has the role, by recursion

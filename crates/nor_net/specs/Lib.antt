@@ -1,4 +1,8 @@
 pub mod Netlist
 pub mod Evaluation
 pub mod SwitchForm
+pub mod Part
 pub mod Examples
+pub mod Equations
+pub mod Recognised
+pub mod Clearing

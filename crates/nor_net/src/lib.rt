@@ -4,8 +4,10 @@
 pub mod evaluation;
 pub mod examples;
 pub mod gate;
+pub mod laws;
 pub mod netlist;
 pub mod no_memory;
+pub mod part;
 pub mod switch_form;
 #[cfg(test)]
 mod tests;
@@ -15,4 +17,5 @@ pub use examples::register_shows;
 pub use gate::{Gate, Transfer};
 pub use netlist::NorNet;
 pub use no_memory::NoMemory;
+pub use part::{Part, PartPort, Supplies};
 pub use switch_form::to_switch;

@@ -3,9 +3,13 @@
 ghost use Rattle.std.specs.Prelude.{◌≡◌, ◌<◌, ◌^◌, ◌++◌, [], ◌∷◌, if◌then◌else◌, false, length, map, replicate, flat_map, find, IfOk, OnOk};
 ghost use Rattle.std.specs.List.{range_with_len};
 ghost use Rattle.rx_text.specs.declared.pad_name.Role.TheVariants.{Gnd};
+ghost use Rattle.rx_lang.specs.Specification.{Specification, Language};
 ghost use Rattle.switch_net.specs.declared.network.Device.TheVariants.{Load};
 ghost use Rattle.switch_net.specs.Validity.{is_same_role, IsNetwork};
+ghost use Rattle.switch_net.specs.Recognition.{Recognises, ShowsSurely};
+ghost use Rattle.nor_net.specs.Clearing.{ClearsByReset};
 ghost use Rattle.nor_net.specs.Evaluation.{is_output};
+ghost use Rattle.nor_net.specs.Recognised.{ShowsByClocks};
 ghost use Rattle.nor_net.specs.SwitchForm.{at, net_of, load_at, pull_downs, transfer_device, devices_of, switch_form, Lists, Computes};
 
 use crate::evaluation::value_at;
@@ -15,23 +19,29 @@ use crate::no_memory::NoMemory;
 use rx_text::Role;
 use std::alloc::Global;
 use switch_net::network::faultless_is_network;
-use switch_net::{Device, Net, Network, Pad, clocked_logic_settles};
+use switch_net::{Device, Net, Network, Pad, clocked_logic_settles, told_nets_settle};
 
 /// Makes the switch network of the netlist, on the same nets: one load for each gate output, a pass device to ground for
 /// each input of a gate, and a pass device for each transfer, whose gate is the net of its clock. From all charges it has a
-/// clock, and each one leaves the values that `step` gives.
+/// clock, and each one leaves the values that `step` gives. So it recognises the languages that the netlist's outputs show,
+/// and where the reset clears the netlist's registers, no output is unknown in a ternary run after the reset clock.
 ///
 /// # Errors
 ///
-/// `NoMemory` where an allocation was refused, or the network would have 2^32 devices or more.
+/// `NoMemory` where an allocation was refused.
 pub fn to_switch(alloc: Global, net: &NorNet) -> Result<Network, NoMemory>
     ensures network { IfOk result (λ network. IsNetwork network) }
     ensures form { IfOk result (λ network. network ≡ switch_form net.now) }
     ensures computes { IfOk result (λ network. Computes network net.now) }
+    ensures recognises { IfOk result (λ network. (spec : Specification) → ShowsByClocks net.now (length spec.lines) (Language spec)
+        → Recognises network (length spec.lines) (Language spec)) }
+    ensures sure { IfOk result (λ network. (spec : Specification) → ShowsByClocks net.now (length spec.lines) (Language spec)
+        → ClearsByReset net.now → ShowsSurely network (length spec.lines) (Language spec)) }
 {
     clocked_logic_settles();
+    told_nets_settle();
     faultless_is_network();
-    let pads = pads_of(alloc, net)?;
+    let pads = Vec::from_slice(alloc, net.pads())?;
     let devices = devices_of(alloc, net)?;
     match Network::new(net.nets(), pads, devices) {
         Ok(network) => Ok(network),
@@ -39,29 +49,13 @@ pub fn to_switch(alloc: Global, net: &NorNet) -> Result<Network, NoMemory>
     }
 }
 
-/// The pads.
-fn pads_of(alloc: Global, net: &NorNet) -> Result<Vec<Pad>, NoMemory>
-    ensures pads { IfOk result (λ pads. pads.items ≡ net.now.pads) }
-    ensures few { IfOk result (λ pads. length pads.items < 2 ^ 32) }
-{
-    let pads = Vec::from_slice(alloc, net.pads())?;
-    if pads.len() > u32::MAX as usize {
-        return Err(NoMemory);
-    }
-    Ok(pads)
-}
-
 /// All devices: the loads, the pull-downs of each gate, and the transfers.
 fn devices_of(alloc: Global, net: &NorNet) -> Result<Vec<Device>, NoMemory>
-    ensures devices { IfOk result (λ devices. devices.items ≡ devices_of net.now) }
-    ensures few { IfOk result (λ devices. length devices.items < 2 ^ 32) }
+    ensures { IfOk result (λ devices. devices.items ≡ devices_of net.now) }
 {
     let mut devices = loads(alloc, net)?;
     add_gates(&mut devices, net.gates(), net_of(net.pads(), Role::Gnd))?;
     add_transfers(&mut devices, net.transfers(), net.pads())?;
-    if devices.len() > u32::MAX as usize {
-        return Err(NoMemory);
-    }
     Ok(devices)
 }
 

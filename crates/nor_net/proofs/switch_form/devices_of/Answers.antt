@@ -1,8 +1,8 @@
 use Rattle.std.proofs.Common.{refl}
 use Rattle.nor_net.proofs.switch_form.devices_of.Goals as goal
 
-pub returns-clause-devices : goal.returns-clause-devices
-returns-clause-devices c =
+pub returns : goal.returns
+returns c =
     rw (
       c.in_ok-add_transfers.ensures,
       c.in_ok-add_gates.ensures,
