@@ -1,0 +1,8 @@
+use Rattle.cell_network.specs.Whole.{cell_gates}
+use Rattle.cell_network.proofs.Adding.{extends, pieces_more}
+use Rattle.cell_network.proofs.whole.whole_gates.Goals as goal
+
+pub loop-v-preserved : goal.loop-v-preserved
+loop-v-preserved c =
+    extends _ c.loop-v.gates.items _ _ (cell_gates c.args.counts c.nodes-nodes.result.now c.loop-v.v) _ c.loop-v.invariant
+    c.in_ok-add_cell_gates.ensures (pieces_more (cell_gates c.args.counts c.nodes-nodes.result.now) c.loop-v.v)
