@@ -34,9 +34,7 @@ fn name(text: &[u8]) -> Result<Name, Fail> {
 }
 
 /// The network with the inverter's pads and these devices.
-fn network(alloc: Global, devices: Vec<Device>) -> Result<Network, Fail>
-    requires { length devices.items < 2 ^ 32 }
-{
+fn network(alloc: Global, devices: Vec<Device>) -> Result<Network, Fail> {
     let pads = [
         pad(PadName::plain(Role::Vdd), 0),
         pad(PadName::plain(Role::Gnd), 1),
