@@ -1,4 +1,6 @@
 pub mod Words
+pub mod Codes
+pub mod Inputs
+pub mod Served
 pub mod StatusText
 pub mod Logged
-pub mod Compiled

@@ -3,8 +3,7 @@ use Rattle.std.specs.Prelude.{ℕ, List, [], ◌∷◌, ◌++◌, Option, Some, 
 use Rattle.std.specs.Fmt.{signed_decimal}
 use Rattle.rx_text.specs.declared.place.Place.{Place}
 use Rattle.rx_text.specs.declared.place.Place.TheVariants.{Text, Square, Whole}
-use Rattle.rxc_program.specs.declared.status.Code.{Code}
-use Rattle.rxc_program.specs.declared.status.Code.TheVariants.{S0, I1}
+use Rattle.rxc_program.specs.Codes.{code_text}
 use Rattle.rxc_program.specs.declared.status.Status.{Status}
 use Rattle.rxc_program.specs.declared.status.Status.TheVariants.{Done, Refused, Usage, ReadFault, WriteFault, NoMemory}
 
@@ -24,11 +23,6 @@ usage_word (Refused code place) = None
 usage_word ReadFault = None
 usage_word WriteFault = None
 usage_word NoMemory = None
-
--- the code and its name
-abbrev pub code_text : Code → List ℕ
-code_text S0 = codes "S0 NotYet"
-code_text I1 = codes "I1 TooLong"
 
 -- ` at LINE:COLUMN`, ` at square X,Y`, or nothing for the input as a whole
 abbrev pub place_text : Place → List ℕ

@@ -1,25 +1,34 @@
 -- Which lists of words are commands, and at which word any other list goes wrong.
-use Rattle.std.specs.Prelude.{ℕ, suc, ◌+◌, ◌&&◌, Bool, true, false, List, [], ◌∷◌, Option, Some, None, map, fold, max, bytes_eq, codes, if◌then◌else◌}
-use Rattle.std.specs.List.{list_any}
+use Rattle.std.specs.Prelude.{ℕ, suc, ◌+◌, ◌&&◌, Bool, true, false, List, [], ◌∷◌, Option, Some, None, map, fold, max, find, bytes_eq, codes, option_map, is_some, if◌then◌else◌}
+use Rattle.rxc_program.specs.declared.words.Command.{Command}
+use Rattle.rxc_program.specs.declared.words.Command.TheVariants.{Net}
 
--- The commands: for each a list of tests, one for each of its words.
-abbrev pub commands : List (List (List ℕ → Bool))
-commands = (bytes_eq (codes "net") ∷ []) ∷ []
+-- a command, with a test for each of its words
+pub record Usage : Type 0 where
+  pub names : Command
+  pub tests : List (List ℕ → Bool)
 
--- the words are just such as the command asks for
+abbrev pub commands : List Usage
+commands = record { names = Net; tests = bytes_eq (codes "net") ∷ [] } ∷ []
+
+-- the words are just such as the tests ask for
 abbrev pub fits : List (List ℕ) → List (List ℕ → Bool) → Bool
 fits [] [] = true
 fits [] (test ∷ tests) = false
 fits (word ∷ words) [] = false
 fits (word ∷ words) (test ∷ tests) = test word && fits words tests
 
--- how many of the words, from the first on, are such as the command asks for
+-- how many of the words, from the first on, are such as the tests ask for
 abbrev pub goes_on : List (List ℕ) → List (List ℕ → Bool) → ℕ
 goes_on [] tests = 0
 goes_on (word ∷ words) [] = 0
 goes_on (word ∷ words) (test ∷ tests) = if test word then suc (goes_on words tests) else 0
 
+-- the command that the words name
+abbrev pub named : List (List ℕ) → Option Command
+named words = option_map (λ usage. usage.names) (find (λ usage. fits words usage.tests) commands)
+
 -- The number, from 1, of the first word at which no command goes on, where the words are no command.
 abbrev pub wrong_word : List (List ℕ) → Option ℕ
 wrong_word words =
-    if list_any (fits words) commands then None else Some (1 + fold max 0 (map (goes_on words) commands))
+    if is_some (named words) then None else Some (1 + fold max 0 (map (λ usage. goes_on words usage.tests) commands))

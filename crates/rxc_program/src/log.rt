@@ -5,7 +5,8 @@ ghost use Rattle.std.specs.Fmt.{signed_decimal};
 ghost use Rattle.rx_io.specs.Causes.{Rose};
 ghost use Rattle.rxc_program.specs.Logged.{TakesOrFails, Writes};
 ghost use Rattle.rxc_program.specs.declared.status.Status.TheVariants.{Refused};
-ghost use Rattle.rxc_program.specs.StatusText.{code_text as text_of_code, status_line};
+ghost use Rattle.rxc_program.specs.Codes.{code_text as text_of_code};
+ghost use Rattle.rxc_program.specs.StatusText.{status_line};
 
 use crate::status::{Code, Status};
 use rx_io::{Failed, Sink, put_all};
@@ -82,7 +83,20 @@ fn code_text(code: Code) -> &'static [u8]
     ensures { result.now ≡ text_of_code code }
 {
     match code {
-        Code::S0 => b"S0 NotYet",
+        Code::S1 => b"S1 BadByte",
+        Code::S2 => b"S2 BadToken",
+        Code::S3 => b"S3 UnknownName",
+        Code::S4 => b"S4 DoubleName",
+        Code::S5 => b"S5 PatternLength",
+        Code::S6 => b"S6 NoLines",
+        Code::S7 => b"S7 NoSymbols",
+        Code::S8 => b"S8 NoOutputs",
+        Code::S9 => b"S9 NoExpression",
+        Code::S10 => b"S10 TooManyLines",
+        Code::S11 => b"S11 TooManySymbols",
+        Code::S12 => b"S12 TooManyOutputs",
+        Code::S13 => b"S13 TooManyLeaves",
+        Code::S14 => b"S14 TooDeep",
         Code::I1 => b"I1 TooLong",
     }
 }

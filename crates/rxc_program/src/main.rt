@@ -3,6 +3,7 @@
 
 mod log;
 mod net;
+mod serve;
 mod status;
 mod top;
 mod words;

@@ -1,17 +1,69 @@
 // How a run of the program ends.
 
 ghost use Rattle.std.specs.Prelude.{◌≡◌};
+ghost use Rattle.rxc_program.specs.Codes.{spec_code};
 ghost use Rattle.rxc_program.specs.StatusText.{exit_number};
 
+use rx_syntax::SpecCode;
 use rx_text::Place;
 
 /// Why an input is refused.
 #[derive(Clone, Copy, Debug, PartialEq, Eq)]
 pub enum Code {
-    /// NotYet: the text is of a form that the program does not take yet.
-    S0,
+    /// BadByte: a byte begins no token, blank or comment.
+    S1,
+    /// BadToken: no specification goes on with this token, or ends here.
+    S2,
+    /// UnknownName: a name in an expression is no symbol, or after `!` no output.
+    S3,
+    /// DoubleName: a name was declared before.
+    S4,
+    /// PatternLength: a pattern has not as many places as there are lines.
+    S5,
+    /// NoLines: a later section or the end comes where the first `line` is due.
+    S6,
+    /// NoSymbols: a later section or the end comes where the first `symbol` is due.
+    S7,
+    /// NoOutputs: a later section or the end comes where the first `output` is due.
+    S8,
+    /// NoExpression: the end comes where the first `expr` is due.
+    S9,
+    /// TooManyLines: more than 16 lines.
+    S10,
+    /// TooManySymbols: more than 32 symbols.
+    S11,
+    /// TooManyOutputs: more than 16 outputs.
+    S12,
+    /// TooManyLeaves: more symbols in all expressions than the command allows.
+    S13,
+    /// TooDeep: more than 200 parentheses are open at once.
+    S14,
     /// TooLong: the input has more than 67,108,864 bytes.
     I1,
+}
+
+impl Code {
+    /// The code of a fault in a specification.
+    pub(crate) fn of_spec(code: SpecCode) -> Code
+        ensures { result ≡ spec_code code }
+    {
+        match code {
+            SpecCode::S1 => Code::S1,
+            SpecCode::S2 => Code::S2,
+            SpecCode::S3 => Code::S3,
+            SpecCode::S4 => Code::S4,
+            SpecCode::S5 => Code::S5,
+            SpecCode::S6 => Code::S6,
+            SpecCode::S7 => Code::S7,
+            SpecCode::S8 => Code::S8,
+            SpecCode::S9 => Code::S9,
+            SpecCode::S10 => Code::S10,
+            SpecCode::S11 => Code::S11,
+            SpecCode::S12 => Code::S12,
+            SpecCode::S13 => Code::S13,
+            SpecCode::S14 => Code::S14,
+        }
+    }
 }
 
 /// How a run ends.

@@ -1,4 +1,4 @@
-//! Runs of the top call over memory. The networks that are written out follow the drawing of the circuit.
+//! Runs of the top call over memory.
 use super::*;
 use rx_io::{MemSink, MemSource};
 use rx_text::Place;
@@ -6,13 +6,17 @@ use std::alloc::Global;
 use std::process::Abort;
 use std::test::Fail;
 
-/// The specification of one occurrence, and its network.
+/// The specification of one occurrence, and its network after the drawings of a leaf and of the frame: loads, the gates of the
+/// frame and of the leaf with its mark, and the registers of both.
 const ONE: &[u8] = b"line x;\nsymbol a = 1;\noutput z;\nexpr a !z;\n";
 
 const ONE_NETWORK: &[u8] =
-    b"rxnet 1\nnets 17\nvdd 0\ngnd 1\nphi1 2\nphi2 3\nreset 4\nin x 5\nout z 6\n\
-load 6\npass 8 6 1\nload 7\npass 16 7 1\nload 8\npass 7 8 1\nload 9\npass 5 9 1\npass 2 4 10\nload 11\npass 10 11 1\npass 3 11 12\n\
-load 13\npass 12 13 1\npass 9 13 1\npass 4 13 1\npass 2 13 14\nload 15\npass 14 15 1\npass 3 15 16\nend\n";
+    b"rxnet 1\nnets 22\nvdd 0\ngnd 1\nphi1 2\nphi2 3\nreset 4\nin x 5\nout z 17\n\
+load 6\nload 7\nload 9\nload 11\nload 12\nload 13\nload 14\nload 15\nload 16\nload 17\nload 19\nload 21\n\
+pass 5 6 1\npass 6 7 1\npass 8 9 1\npass 16 17 1\npass 18 19 1\npass 10 11 1\npass 9 12 1\npass 12 13 1\npass 7 14 1\npass 12 15 1\npass 14 15 1\npass 4 15 1\npass 20 21 1\npass 11 16 1\n\
+pass 2 4 18\npass 3 19 8\npass 2 15 20\npass 3 21 10\nend\n";
+
+const ONE_PADS: &[u8] = b"\nvdd 0\ngnd 1\nphi1 2\nphi2 3\nreset 4\nin x 5\nout z ";
 
 /// What a run came to: its status, and what the output and the log took.
 #[derive(Drop)]
@@ -50,7 +54,7 @@ fn run_on(alloc: Global, words: &[&[u8]], text: &[u8], faults: Faults) -> Result
     let words = command_words(alloc, words)?;
     let mut src = MemSource::new(text.to_vec(alloc)?, vec![in alloc; faults.read]?);
     let most = faults.most.max(1);
-    let mut out = MemSink::new(alloc, 1 << 20, vec![in alloc; faults.write]?, most)?;
+    let mut out = MemSink::new(alloc, 1 << 23, vec![in alloc; faults.write]?, most)?;
     let mut log = MemSink::new(alloc, 100, Vec::new(alloc), 100)?;
     let status = rxc(alloc, words.as_slice(), &mut src, &mut out, &mut log);
     Ok(Outcome {
@@ -60,11 +64,9 @@ fn run_on(alloc: Global, words: &[&[u8]], text: &[u8], faults: Faults) -> Result
     })
 }
 
-fn not_yet() -> Status {
-    Status::Refused {
-        code: Code::S0,
-        place: Place::Whole,
-    }
+/// The text has these bytes somewhere.
+fn has(text: &[u8], part: &[u8]) -> bool {
+    (0..=text.len()).any(|at| text[at..].starts_with(part))
 }
 
 #[test]
@@ -108,23 +110,90 @@ fn takes_one_command(rt: HostRuntime) -> Result<(), Fail> {
     Ok(())
 }
 
+/// A refusal with its line and column, and its line in the log.
+type Refusal = (&'static [u8], Code, u32, u32, &'static [u8]);
+
 #[test]
-fn refuses_what_it_does_not_take(rt: HostRuntime) -> Result<(), Fail> {
-    let cases: [&[u8]; 7] = [
-        b"",
-        b"line x;\nsymbol a = 1;\noutput z;\nexpr a* !z;\n",
-        b"line x;\nsymbol a = 1;\noutput z;\nexpr b !z;\n",
-        b"line x;\nsymbol a = 1;\noutput z;\nexpr a !z;\0",
-        b"line x;\nsymbol a = 1;\noutput z;\nexpr a !z;\nexpr a !z;\n",
-        b"line x y;\nsymbol a = 11;\noutput z;\nexpr a !z;\n",
-        b"line n2345678901234567890123456789012;\nsymbol a = 1;\noutput z;\nexpr a !z;\n",
+fn refuses_by_code_and_place(rt: HostRuntime) -> Result<(), Fail> {
+    let cases: [Refusal; 6] = [
+        (b"", Code::S6, 1, 1, b"rxc: S6 NoLines at 1:1\n"),
+        (
+            b"line x;\nsymbol a = 1;\noutput z;\nexpr b !z;\n",
+            Code::S3,
+            4,
+            6,
+            b"rxc: S3 UnknownName at 4:6\n",
+        ),
+        (
+            b"line x x;\nsymbol a = 1;\noutput z;\nexpr a !z;\n",
+            Code::S4,
+            1,
+            8,
+            b"rxc: S4 DoubleName at 1:8\n",
+        ),
+        (
+            b"line x y;\nsymbol a = 1;\nsymbol b = 01;\noutput z;\nexpr (a|b)* a !z;\n",
+            Code::S5,
+            2,
+            12,
+            b"rxc: S5 PatternLength at 2:12\n",
+        ),
+        (
+            b"line x;\nsymbol a = 1;\noutput z;\nexpr A !z;\n",
+            Code::S1,
+            4,
+            6,
+            b"rxc: S1 BadByte at 4:6\n",
+        ),
+        (
+            b"line x; line y; output z;",
+            Code::S7,
+            1,
+            17,
+            b"rxc: S7 NoSymbols at 1:17\n",
+        ),
     ];
-    for text in cases {
+    for (text, code, line, column, log) in cases {
         let run = run_on(rt.alloc(), &[b"net"], text, NO_FAULTS)?;
-        assert_eq!(rt; run.status, not_yet(), "{text:?}");
+        let place = Place::Text { line, column };
+        assert_eq!(rt; run.status, Status::Refused { code, place });
         assert_eq!(rt; run.status.exit(), 1);
         assert_eq!(rt; run.out.as_slice(), b"".as_slice());
-        assert_eq!(rt; run.log.as_slice(), b"rxc: S0 NotYet\n".as_slice());
+        assert_eq!(rt; run.log.as_slice(), log);
+    }
+    Ok(())
+}
+
+/// The texts of the manual that are refused, with their codes and columns.
+const REFUSED: [(&[u8], Code, u32); 11] = [
+    (b"line x; symbol a = 1; output z; expr A !z;", Code::S1, 38),
+    (b"line x; symbol a = 1; output z; expr a | ;", Code::S2, 42),
+    (b"line x; symbol a = 1; output z; expr b !z;", Code::S3, 38),
+    (b"line x x; symbol a = 1; output z; expr a !z;", Code::S4, 8),
+    (b"line x; symbol a = 10; output z; expr a !z;", Code::S5, 20),
+    (b"symbol a = 1; output z; expr a !z;", Code::S6, 1),
+    (b"line x; output z; expr a !z;", Code::S7, 9),
+    (b"line x; symbol a = 1; expr a;", Code::S8, 23),
+    (b"line x; symbol a = 1; output z;", Code::S9, 32),
+    (
+        b"line a b c d e f g h i j k l m n o p q; symbol s = 1; output z; expr s;",
+        Code::S10,
+        38,
+    ),
+    (
+        b"line x; symbol s = 1; output a b c d e f g h i j k l m n o p q; expr s;",
+        Code::S12,
+        62,
+    ),
+];
+
+#[test]
+fn refuses_the_texts_of_the_manual(rt: HostRuntime) -> Result<(), Fail> {
+    for (text, code, column) in REFUSED {
+        let run = run_on(rt.alloc(), &[b"net"], text, NO_FAULTS)?;
+        let place = Place::Text { line: 1, column };
+        assert_eq!(rt; run.status, Status::Refused { code, place });
+        assert_eq!(rt; run.out.as_slice(), b"".as_slice());
     }
     Ok(())
 }
@@ -134,7 +203,7 @@ fn refuses_each_front_of_a_specification(rt: HostRuntime) -> Result<(), Fail> {
     let last = ONE.len() - 2;
     for length in 0..last {
         let run = run_on(rt.alloc(), &[b"net"], &ONE[..length], NO_FAULTS)?;
-        assert_eq!(rt; run.status, not_yet(), "{length}");
+        assert_eq!(rt; run.status.exit(), 1, "{length}");
         assert_eq!(rt; run.out.as_slice(), b"".as_slice());
     }
     Ok(())
@@ -156,58 +225,87 @@ fn refuses_noise(rt: HostRuntime) -> Result<(), Fail> {
     for seed in 0..200 {
         let text = noise(rt.alloc(), seed, seed % 64)?;
         let run = run_on(rt.alloc(), &[b"net"], &text, NO_FAULTS)?;
-        assert_eq!(rt; run.status, not_yet(), "{seed}");
+        assert_eq!(rt; run.status.exit(), 1, "{seed}");
         assert_eq!(rt; run.out.as_slice(), b"".as_slice());
     }
     Ok(())
 }
 
-/// A specification with its symbol so many times, its lines ended by carriage return and line feed.
+/// A specification with its symbol so many times on its fourth line.
 fn occurrences(alloc: Global, count: u32) -> Result<Vec<u8>, Fail> {
-    let mut text = Vec::from_slice(alloc, b"line x;\r\nsymbol a = -;\r\noutput z;\r\nexpr")?;
+    let mut text = Vec::from_slice(alloc, b"line x;\nsymbol a = 1;\noutput z;\nexpr")?;
     for _ in 0..count {
-        text.extend_from_slice(b"\ta")?;
+        text.extend_from_slice(b" a")?;
     }
-    text.extend_from_slice(b" !z;\r\n")?;
+    text.extend_from_slice(b" !z;\n")?;
     Ok(text)
 }
 
 #[test]
 fn takes_up_to_4096_occurrences(rt: HostRuntime) -> Result<(), Fail> {
-    let cases: [(u32, Status, &[u8]); 3] = [
-        (
-            2,
-            Status::Done,
-            b"rxnet 1\nnets 21\nvdd 0\ngnd 1\nphi1 2\nphi2 3\nreset 4\nin x 5\nout z 6\n",
-        ),
-        (4096, Status::Done, b"rxnet 1\nnets 16397\nvdd 0\n"),
-        (4097, not_yet(), b""),
-    ];
-    for (count, status, front) in cases {
-        let text = occurrences(rt.alloc(), count)?;
-        let run = run_on(rt.alloc(), &[b"net"], &text, NO_FAULTS)?;
-        assert_eq!(rt; run.status, status, "{count}");
-        assert!(rt; run.out.starts_with(front), "{count}");
-    }
+    let text = occurrences(rt.alloc(), 4096)?;
+    let run = run_on(rt.alloc(), &[b"net"], &text, NO_FAULTS)?;
+    assert_eq!(rt; run.status, Status::Done);
+    assert!(rt; run.out.ends_with(b"\nend\n"));
+    let text = occurrences(rt.alloc(), 4097)?;
+    let run = run_on(rt.alloc(), &[b"net"], &text, NO_FAULTS)?;
+    let place = Place::Text {
+        line: 4,
+        column: 8198,
+    };
+    assert_eq!(rt;
+        run.status,
+        Status::Refused {
+            code: Code::S13,
+            place
+        }
+    );
+    assert_eq!(rt; run.out.as_slice(), b"".as_slice());
     Ok(())
 }
 
 #[test]
-fn takes_the_examples(rt: HostRuntime) -> Result<(), Fail> {
-    let cases: [(&[u8], &[u8]); 2] = [
+fn takes_the_whole_language(rt: HostRuntime) -> Result<(), Fail> {
+    let cases: [(&[u8], &[u8]); 9] = [
+        (
+            b"# High after each word that ends with 1 1 0 1.\nline d;\nsymbol one = 1;\nsymbol zero = 0;\noutput hit;\nexpr (one | zero)* one one zero one !hit;\n",
+            b"\nreset 4\nin d 5\nout hit ",
+        ),
+        (
+            b"line req ack;\nsymbol idle = 00;\nsymbol ask = 10;\nsymbol grant = 11;\nsymbol lone_ack = 01;\nsymbol any = --;\noutput done stray;\nexpr any* ask grant !done;\nexpr any* idle lone_ack !stray;\n",
+            b"\nreset 4\nin req 5\nin ack 6\nout done ",
+        ),
         (
             b"# Three ones in a row from the start.\nline d;\nsymbol one = 1;\noutput run;\nexpr one one one !run;\n",
-            b"rxnet 1\nnets 25\nvdd 0\ngnd 1\nphi1 2\nphi2 3\nreset 4\nin d 5\nout run 6\n",
+            b"\nreset 4\nin d 5\nout run ",
         ),
         (
-            b"# High eight clocks after the reset, whatever the line does.\nline enable;\nsymbol tick = -;\noutput ready;\nexpr tick tick tick tick tick tick tick tick !ready;\n",
-            b"rxnet 1\nnets 45\nvdd 0\ngnd 1\nphi1 2\nphi2 3\nreset 4\nin enable 5\nout ready 6\n",
+            b"line x y;\nsymbol a = 1-;\nsymbol b = 01;\noutput z;\nexpr (a|b)* a !z;\n",
+            b"\nreset 4\nin x 5\nin y 6\nout z ",
         ),
+        (
+            b"line x;\nsymbol a = 1;\noutput z;\nexpr (a? !z)*;\n",
+            ONE_PADS,
+        ),
+        (
+            b"line x;\nsymbol a = 1;\nsymbol b = 0;\noutput z;\nexpr ((a*)* | b?)+ !z;\n",
+            ONE_PADS,
+        ),
+        (
+            b"line x;\nsymbol a = 1;\nsymbol b = 0;\noutput y z;\nexpr (a !y) b !z;\n",
+            b"\nreset 4\nin x 5\nout y ",
+        ),
+        (
+            b"line x y;\nsymbol a = 1-;\nsymbol b = -1;\noutput z v;\nexpr a b !z;\nexpr b a !v;\n",
+            b"\nreset 4\nin x 5\nin y 6\nout z ",
+        ),
+        (b"line x;\nsymbol a = 1;\noutput z;\nexpr a;\n", ONE_PADS),
     ];
-    for (text, front) in cases {
+    for (text, pads) in cases {
         let run = run_on(rt.alloc(), &[b"net"], text, NO_FAULTS)?;
         assert_eq!(rt; run.status, Status::Done);
-        assert!(rt; run.out.starts_with(front));
+        assert!(rt; has(&run.out, pads));
+        assert!(rt; run.out.ends_with(b"\nend\n"));
     }
     Ok(())
 }
@@ -216,9 +314,10 @@ fn takes_the_examples(rt: HostRuntime) -> Result<(), Fail> {
 fn reads_past_comments(rt: HostRuntime) -> Result<(), Fail> {
     let text =
         b"line x; # a line\nsymbol a = 1;#\noutput z;\n# the mark\nexpr a !z; # no line feed";
+    let plain = run_on(rt.alloc(), &[b"net"], ONE, NO_FAULTS)?;
     let run = run_on(rt.alloc(), &[b"net"], text, NO_FAULTS)?;
     assert_eq!(rt; run.status, Status::Done);
-    assert_eq!(rt; run.out.as_slice(), ONE_NETWORK);
+    assert_eq!(rt; run.out, plain.out);
     Ok(())
 }
 
@@ -265,7 +364,7 @@ fn tells_a_failing_source(rt: HostRuntime) -> Result<(), Fail> {
 }
 
 /// Lets each call of the sink fail in turn, until a run meets no failure. Answers how many runs failed.
-fn failing_runs(rt: &impl Abort, alloc: Global, most: usize) -> Result<usize, Fail> {
+fn failing_runs(rt: &impl Abort, alloc: Global, whole: &[u8], most: usize) -> Result<usize, Fail> {
     for write in 1..1000u32 {
         let faults = Faults {
             read: 0,
@@ -274,14 +373,14 @@ fn failing_runs(rt: &impl Abort, alloc: Global, most: usize) -> Result<usize, Fa
         };
         let run = run_on(alloc, &[b"net"], ONE, faults)?;
         if run.status == Status::Done {
-            assert_eq!(rt; run.out.as_slice(), ONE_NETWORK);
+            assert_eq!(rt; run.out.as_slice(), whole);
             return Ok(write as usize - 1);
         }
         assert_eq!(rt; run.status, Status::WriteFault);
         assert_eq!(rt; run.status.exit(), 4);
         assert_eq!(rt; run.log.as_slice(), b"rxc: write fault\n".as_slice());
         let taken = (write as usize - 1) * most.min(1000);
-        assert!(rt; ONE_NETWORK.starts_with(run.out.as_slice()));
+        assert!(rt; whole.starts_with(run.out.as_slice()));
         assert_eq!(rt; run.out.len(), taken);
     }
     Err("no run went well".into())
@@ -289,9 +388,14 @@ fn failing_runs(rt: &impl Abort, alloc: Global, most: usize) -> Result<usize, Fa
 
 #[test]
 fn tells_a_failing_sink(rt: HostRuntime) -> Result<(), Fail> {
+    let run = run_on(rt.alloc(), &[b"net"], ONE, NO_FAULTS)?;
     for most in [1, 2, 16, usize::MAX] {
-        let calls = ONE_NETWORK.len().div_ceil(most);
-        assert_eq!(rt; failing_runs(&rt, rt.alloc(), most)?, calls, "{most}");
+        let calls = run.out.len().div_ceil(most);
+        assert_eq!(rt;
+            failing_runs(&rt, rt.alloc(), &run.out, most)?,
+            calls,
+            "{most}"
+        );
     }
     Ok(())
 }
@@ -304,7 +408,7 @@ fn a_failing_log_changes_no_status(rt: HostRuntime) -> Result<(), Fail> {
     let mut out = MemSink::new(alloc, 100, Vec::new(alloc), 100)?;
     let mut log = MemSink::new(alloc, 7, Vec::new(alloc), 100)?;
     let status = rxc(alloc, words.as_slice(), &mut src, &mut out, &mut log);
-    assert_eq!(rt; status, not_yet());
-    assert_eq!(rt; log.held(), b"rxc: S0".as_slice());
+    assert_eq!(rt; status.exit(), 1);
+    assert_eq!(rt; log.held(), b"rxc: S6".as_slice());
     Ok(())
 }

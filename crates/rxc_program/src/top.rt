@@ -4,17 +4,18 @@ ghost use Rattle.std.specs.Prelude.{◌≡◌, ◌≤◌, ◌⊎◌, ℕ, List, 
 ghost use Rattle.std.specs.Io.KnownBytes.{Appends};
 ghost use Rattle.rx_io.specs.Causes.{Rose};
 ghost use Rattle.rx_io.specs.Streams.{AppendsFront, LosesUpTo};
-ghost use Rattle.rx_lang.specs.Specification.{Specification};
-ghost use Rattle.rxc_program.specs.Compiled.{IsAccepted, IsCompiled, IsEndOfAccepted, IsEndOfRefused, IsRefused, Refuses, most_input_bytes, stops_reading, writes};
+ghost use Rattle.rxc_program.specs.Inputs.{InputsAreJudged, IsAccepted, IsRefused, most_input_bytes};
 ghost use Rattle.rxc_program.specs.Logged.{TakesOrFails};
+ghost use Rattle.rxc_program.specs.Served.{IsEndOfAccepted, IsEndOfRefused, IsServed, Refuses, stops_reading, writes};
 ghost use Rattle.rxc_program.specs.StatusText.{status_line, usage_word};
-ghost use Rattle.rxc_program.specs.Words.{wrong_word};
+ghost use Rattle.rxc_program.specs.Words.{named, wrong_word};
 
 use crate::log::tell;
-use crate::net::net;
+use crate::serve::serve;
 use crate::status::{Code, Status};
 use crate::words::{Command, RxWord, named_command};
 use rx_io::{Sink, Source};
+use rx_syntax::laws::texts_are_accepted_or_refused;
 use rx_text::Place;
 use std::alloc::Global;
 
@@ -32,21 +33,22 @@ pub fn rxc<S: Source, O: Sink, L: Sink>(
     ensures untouched { (word : ℕ) → result ≡ Status.Usage word → (src.new ≡ src.old) × (out.new ≡ out.old) }
 
     // What was read and written.
-    ensures done { result ≡ Status.Done → IsCompiled (S.left src.old) (S.left src.new) (Appends (O.held out.old) (O.held out.new)) }
-    ensures write_fault { result ≡ Status.WriteFault
-        → IsCompiled (S.left src.old) (S.left src.new) (AppendsFront (O.held out.old) (O.held out.new)) }
+    ensures done { (command : Command) → named words.now ≡ Some command → result ≡ Status.Done
+        → IsServed command (S.left src.old) (S.left src.new) (Appends (O.held out.old) (O.held out.new)) }
+    ensures write_fault { (command : Command) → named words.now ≡ Some command → result ≡ Status.WriteFault
+        → IsServed command (S.left src.old) (S.left src.new) (AppendsFront (O.held out.old) (O.held out.new)) }
     ensures unwritten { writes result ≡ false → out.new ≡ out.old }
-    ensures refused { (code : Code) (place : Place) → result ≡ Status.Refused code place
-        → Refuses (S.left src.old) (S.left src.new) code place }
+    ensures refused { (command : Command) → named words.now ≡ Some command → (code : Code) (place : Place)
+        → result ≡ Status.Refused code place → Refuses command (S.left src.old) (S.left src.new) code place }
     ensures lost { stops_reading result ≡ true → LosesUpTo (S.left src.old) (S.left src.new) most_input_bytes }
 
     // How a run on an input that is known ends.
-    ensures accepted { wrong_word words.now ≡ None → (text : List ℕ) → S.left src.old ≡ Some text
-        → (spec : Specification) → IsAccepted text spec → IsEndOfAccepted result }
-    ensures not_accepted { wrong_word words.now ≡ None → (text : List ℕ) → S.left src.old ≡ Some text
-        → (code : Code) (place : Place) → IsRefused text code place → IsEndOfRefused code place result }
-    ensures complete { wrong_word words.now ≡ None → (text : List ℕ) → S.left src.old ≡ Some text
-        → (spec : Specification) → IsAccepted text spec
+    ensures accepted { (command : Command) → named words.now ≡ Some command → (text : List ℕ) → S.left src.old ≡ Some text
+        → IsAccepted command text → IsEndOfAccepted result }
+    ensures not_accepted { (command : Command) → named words.now ≡ Some command → (text : List ℕ) → S.left src.old ≡ Some text
+        → (code : Code) (place : Place) → IsRefused command text code place → IsEndOfRefused code place result }
+    ensures complete { (command : Command) → named words.now ≡ Some command → (text : List ℕ) → S.left src.old ≡ Some text
+        → IsAccepted command text
         → ¬ Rose (S.faults src.old) (S.faults src.new) → ¬ Rose (O.faults out.old) (O.faults out.new)
         → (result ≡ Status.Done) ⊎ (result ≡ Status.NoMemory) }
 
@@ -60,6 +62,7 @@ pub fn rxc<S: Source, O: Sink, L: Sink>(
     ensures log { TakesOrFails (L.held log.old) (L.held log.new) (L.faults log.old) (L.faults log.new) (status_line result) }
     ensures log_count { L.faults log.old ≤ L.faults log.new }
 {
+    inputs_are_judged();
     let status = run(alloc, words, src, out);
     tell(log, &status);
     status
@@ -68,13 +71,15 @@ pub fn rxc<S: Source, O: Sink, L: Sink>(
 // The run without its line in the log.
 fn run<S: Source, O: Sink>(alloc: Global, words: &[RxWord], src: &mut S, out: &mut O) -> Status
     ensures usage { usage_word result ≡ wrong_word words.now }
+    ensures served { (command : Command) → named words.now ≡ Some command → usage_word result ≡ None }
     ensures untouched { (word : ℕ) → result ≡ Status.Usage word → (src.new ≡ src.old) × (out.new ≡ out.old) }
-    ensures done { result ≡ Status.Done → IsCompiled (S.left src.old) (S.left src.new) (Appends (O.held out.old) (O.held out.new)) }
-    ensures write_fault { result ≡ Status.WriteFault
-        → IsCompiled (S.left src.old) (S.left src.new) (AppendsFront (O.held out.old) (O.held out.new)) }
+    ensures done { (command : Command) → named words.now ≡ Some command → result ≡ Status.Done
+        → IsServed command (S.left src.old) (S.left src.new) (Appends (O.held out.old) (O.held out.new)) }
+    ensures write_fault { (command : Command) → named words.now ≡ Some command → result ≡ Status.WriteFault
+        → IsServed command (S.left src.old) (S.left src.new) (AppendsFront (O.held out.old) (O.held out.new)) }
     ensures unwritten { writes result ≡ false → out.new ≡ out.old }
-    ensures refused { (code : Code) (place : Place) → result ≡ Status.Refused code place
-        → Refuses (S.left src.old) (S.left src.new) code place }
+    ensures refused { (command : Command) → named words.now ≡ Some command → (code : Code) (place : Place)
+        → result ≡ Status.Refused code place → Refuses command (S.left src.old) (S.left src.new) code place }
     ensures lost { stops_reading result ≡ true → LosesUpTo (S.left src.old) (S.left src.new) most_input_bytes }
     ensures read_cause { result ≡ Status.ReadFault → Rose (S.faults src.old) (S.faults src.new) }
     ensures write_cause { result ≡ Status.WriteFault → Rose (O.faults out.old) (O.faults out.new) }
@@ -82,7 +87,15 @@ fn run<S: Source, O: Sink>(alloc: Global, words: &[RxWord], src: &mut S, out: &m
     ensures sink_count { O.faults out.old ≤ O.faults out.new }
 {
     match named_command(words) {
-        Ok(Command::Net) => net(alloc, src, out),
+        Ok(command) => serve(alloc, command, src, out),
         Err(word) => Status::Usage { word },
     }
+}
+
+/// Every input is accepted by a command or refused by it for one reason, and never both. It runs nothing: a caller has the
+/// law from its contract.
+pub fn inputs_are_judged()
+    ensures { InputsAreJudged }
+{
+    texts_are_accepted_or_refused();
 }

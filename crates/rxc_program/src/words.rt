@@ -1,8 +1,8 @@
 // The words of the command line, and the command that they name.
 
-ghost use Rattle.std.specs.Prelude.{◌≡◌, ◌<◌, ◌^◌, length, bytes_eq};
+ghost use Rattle.std.specs.Prelude.{◌≡◌, ◌<◌, ◌^◌, length, bytes_eq, Some, IfOk};
 ghost use Rattle.std.specs.Result.{result_err};
-ghost use Rattle.rxc_program.specs.Words.{wrong_word};
+ghost use Rattle.rxc_program.specs.Words.{named, wrong_word};
 
 use std::marker::Model;
 
@@ -37,14 +37,16 @@ impl RxWord {
 }
 
 /// What the words of a command line ask for.
-#[derive(Clone, Copy)]
-pub(crate) enum Command {
+#[derive(Clone, Copy, Debug, PartialEq, Eq)]
+pub enum Command {
+    /// A specification in, the text of its switch network out.
     Net,
 }
 
 /// The command that the words name. An error is the number of the first word, from 1, at which no command goes on.
 pub(crate) fn named_command(words: &[RxWord]) -> Result<Command, u32>
-    ensures { result_err result ≡ wrong_word words.now }
+    ensures command { IfOk result (λ command. named words.now ≡ Some command) }
+    ensures wrong { result_err result ≡ wrong_word words.now }
 {
     match words {
         [first, rest @ ..] if first.is(b"net") => {

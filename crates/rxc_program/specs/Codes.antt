@@ -1,0 +1,41 @@
+-- The codes of refusals: their names, and those of each reader among them.
+use Rattle.std.specs.Prelude.{ℕ, List, codes}
+use Rattle.rx_syntax.specs.declared.spec_code.SpecCode.{SpecCode}
+use Rattle.rx_syntax.specs.declared.spec_code.SpecCode.TheVariants as spec
+use Rattle.rxc_program.specs.declared.status.Code.{Code}
+use Rattle.rxc_program.specs.declared.status.Code.TheVariants.{S1, S2, S3, S4, S5, S6, S7, S8, S9, S10, S11, S12, S13, S14, I1}
+
+-- the code of a fault in a specification
+abbrev pub spec_code : SpecCode → Code
+spec_code spec.S1 = S1
+spec_code spec.S2 = S2
+spec_code spec.S3 = S3
+spec_code spec.S4 = S4
+spec_code spec.S5 = S5
+spec_code spec.S6 = S6
+spec_code spec.S7 = S7
+spec_code spec.S8 = S8
+spec_code spec.S9 = S9
+spec_code spec.S10 = S10
+spec_code spec.S11 = S11
+spec_code spec.S12 = S12
+spec_code spec.S13 = S13
+spec_code spec.S14 = S14
+
+-- the code and its name
+abbrev pub code_text : Code → List ℕ
+code_text S1 = codes "S1 BadByte"
+code_text S2 = codes "S2 BadToken"
+code_text S3 = codes "S3 UnknownName"
+code_text S4 = codes "S4 DoubleName"
+code_text S5 = codes "S5 PatternLength"
+code_text S6 = codes "S6 NoLines"
+code_text S7 = codes "S7 NoSymbols"
+code_text S8 = codes "S8 NoOutputs"
+code_text S9 = codes "S9 NoExpression"
+code_text S10 = codes "S10 TooManyLines"
+code_text S11 = codes "S11 TooManySymbols"
+code_text S12 = codes "S12 TooManyOutputs"
+code_text S13 = codes "S13 TooManyLeaves"
+code_text S14 = codes "S14 TooDeep"
+code_text I1 = codes "I1 TooLong"
