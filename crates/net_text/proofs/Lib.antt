@@ -2,3 +2,8 @@ pub mod Gathering
 pub mod Lines
 pub mod ReadBack
 pub mod OneNetwork
+pub mod Agreeing
+pub mod Numerals
+pub mod Steps
+pub mod LinesRead
+pub mod CircuitFaults

@@ -58,7 +58,7 @@ abbrev IsInName : ℕ → Type 0
 IsInName c = is_name_byte c ≡ true
 
 -- each of two tests that pass
-both_true : (a b : Bool) → (a && b) ≡ true → (a ≡ true) × (b ≡ true)
+pub both_true : (a b : Bool) → (a && b) ≡ true → (a ≡ true) × (b ≡ true)
 both_true true b h = (refl, h)
 both_true false b h = cc
 

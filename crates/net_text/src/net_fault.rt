@@ -1,0 +1,40 @@
+// What can be wrong with a network text.
+
+use rx_text::Place;
+use std::alloc::{AllocError, AllocFailed};
+use thiserror::Error;
+
+/// What is wrong with the text of a network.
+#[derive(Clone, Copy, Debug, PartialEq, Eq)]
+pub enum NetCode {
+    /// Syntax: no text of the shape goes on with this byte, or ends here.
+    N1,
+    /// A net is not below the number of nets.
+    N2,
+    /// A pad repeats the name or the net of an earlier pad.
+    N3,
+    /// A supply, a clock or the reset has no pad.
+    N4,
+    /// There are more than 16,777,216 nets.
+    N5,
+    /// A byte stands behind the line `end`.
+    N6,
+}
+
+/// Why a text is no network's, and where.
+#[derive(Clone, Copy, Debug, PartialEq, Eq)]
+pub struct NetFault {
+    pub code: NetCode,
+    pub place: Place,
+}
+
+/// Why no network is read.
+#[derive(Clone, Copy, Debug, PartialEq, Eq, Error)]
+pub enum ReadNetFault {
+    /// The text is no network's.
+    #[error("{0:?}")]
+    Fault(NetFault),
+    /// An allocation was refused.
+    #[error("no memory")]
+    NoMemory,
+}

@@ -1,0 +1,14 @@
+pub mod Gains
+pub mod Marked
+pub mod Sweeps
+pub mod Fixed
+pub mod Pulled
+pub mod Updated
+pub mod Iterates
+pub mod Existing
+pub mod Cuts
+pub mod LineFaults
+pub mod TextLines
+pub mod Reading
+pub mod Runs
+pub mod Faultless

@@ -1,0 +1,9 @@
+pub mod Marking
+pub mod Sweeping
+pub mod Updating
+pub mod Simulating
+pub mod TraceTexts
+pub mod TraceCuts
+pub mod TraceReading
+pub mod TraceLines
+pub mod TraceLaws

@@ -1,0 +1,23 @@
+//! The ternary simulator of switch networks: levels are low, high or unknown.
+#![tactic(auto)]
+
+mod drive;
+mod laws;
+mod marking;
+mod marks;
+mod no_memory;
+mod run;
+mod settling;
+mod sim;
+mod trace;
+mod trace_code;
+
+pub use laws::faultless_is_trace;
+pub use no_memory::NoMemory;
+pub use run::{RunFault, run_trace};
+pub use sim::Sim;
+pub use trace::{Trace, read_trace};
+pub use trace_code::{ReadTraceFault, TraceCode, TraceFault};
+
+#[cfg(test)]
+mod tests;
