@@ -172,7 +172,7 @@ fn names_missing_sections(rt: HostRuntime) {
 
 #[test]
 fn names_faults_of_names_and_limits(rt: HostRuntime) {
-    let rows: [(&[u8], SpecCode, u32, u32); 20] = [
+    let rows: [(&[u8], SpecCode, u32, u32); 23] = [
         (
             b"line x;\nsymbol a = 1;\noutput z;\nexpr b !z;",
             SpecCode::S3,
@@ -276,6 +276,18 @@ fn names_faults_of_names_and_limits(rt: HostRuntime) {
             1,
         ),
         (
+            b"line a b c d e;\r\nline f g h i j k l m n o p q r s;\nsymbol t = 1;\noutput z;\nexpr u",
+            SpecCode::S2,
+            5,
+            7,
+        ),
+        (
+            b"line a b c d e;\r\nline f g h i j k l m n o p q r s;\nsymbol t = 1;\noutput z;\nexpr u;",
+            SpecCode::S10,
+            2,
+            28,
+        ),
+        (
             b"line a b c d e f g h i j k l m n o p a;\nsymbol s = 1;\noutput z;\nexpr s;",
             SpecCode::S4,
             1,
@@ -286,6 +298,12 @@ fn names_faults_of_names_and_limits(rt: HostRuntime) {
             SpecCode::S12,
             3,
             40,
+        ),
+        (
+            b"line x;\nsymbol s = 1;\noutput a b; # two\noutput c d e f g h i j k l m n o p q r;\nexpr t;",
+            SpecCode::S12,
+            4,
+            36,
         ),
         (
             b"line x;\nsymbol s = 1;\noutput a b c d e f g h;\noutput i j k l m n o p # q\n\tq;\nexpr t;",
@@ -355,18 +373,50 @@ fn counts_open_parentheses(rt: HostRuntime) -> Result<(), AllocError> {
     Ok(())
 }
 
+// Parentheses that are closed do not count: behind 200 that were closed the 201st that is open again is refused.
 #[test]
-fn counts_symbols(rt: HostRuntime) -> Result<(), AllocError> {
-    let mut text = Vec::from_slice(rt.alloc(), b"line x;\n")?;
-    for symbol in 0..33 {
+fn counts_parentheses_open_at_once(rt: HostRuntime) -> Result<(), AllocError> {
+    let begin = b"line x;\nsymbol a = 1;\noutput z;\nexpr ";
+    let opened = repeated(rt.alloc(), begin, b"(", 200, b"a")?;
+    let rows: [(&[u8], u32, &[u8], Option<SpecFault>); 3] = [
+        (b" ", 201, b"a", fault(SpecCode::S14, 4, 608)),
+        (b";\r\n\texpr", 201, b"", fault(SpecCode::S14, 5, 206)),
+        (b" ", 200, b"", fault(SpecCode::S2, 4, 608)),
+    ];
+    for (between, times, end, expected) in rows.iter() {
+        let closed = repeated(rt.alloc(), &opened, b")", 200, between)?;
+        let text = repeated(rt.alloc(), &closed, b"(", *times, end)?;
+        assert_eq!(rt; refusal(rt.alloc(), &text, 4096), *expected);
+    }
+    Ok(())
+}
+
+// The text of a specification with so many symbols, fewer than 100, a piece behind each of them.
+fn with_symbols(alloc: Global, count: u8, behind: &[u8]) -> Result<Vec<u8>, AllocError> {
+    let mut text = Vec::from_slice(alloc, b"line x;\n")?;
+    for symbol in 0..count {
         text.extend_from_slice(b"symbol a")?;
         text.push(b'0' + symbol / 10)?;
         text.push(b'0' + symbol % 10)?;
-        text.extend_from_slice(b" = -;\n")?;
+        text.extend_from_slice(b" = -;")?;
+        text.extend_from_slice(behind)?;
     }
     text.extend_from_slice(b"output z;\nexpr b;\n")?;
-    let expected = fault(SpecCode::S11, 34, 8);
-    assert_eq!(rt; refusal(rt.alloc(), &text, 4096), expected);
+    Ok(text)
+}
+
+#[test]
+fn counts_symbols(rt: HostRuntime) -> Result<(), AllocError> {
+    let rows: [(u8, &[u8], Option<SpecFault>); 4] = [
+        (33, b"\n", fault(SpecCode::S11, 34, 8)),
+        (60, b"\t# more\r\n", fault(SpecCode::S11, 34, 8)),
+        (34, b" ", fault(SpecCode::S11, 2, 520)),
+        (32, b"\n", fault(SpecCode::S3, 35, 6)),
+    ];
+    for (count, behind, expected) in rows.iter() {
+        let text = with_symbols(rt.alloc(), *count, behind)?;
+        assert_eq!(rt; refusal(rt.alloc(), &text, 4096), *expected);
+    }
     Ok(())
 }
 
