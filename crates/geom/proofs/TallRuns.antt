@@ -20,8 +20,8 @@ same_to S y f t g u x p q fx xt gx xu = between t u
     (λ h. p.right (q.covered t (omega (arith, ints)) (omega (arith, ints))))
     (λ h. q.right (p.covered u (omega (arith, ints)) (omega (arith, ints))))
 
-run_along : (S : Squares) (y f t g u : ℤ) → f ≡ g → t ≡ u → IsRun S y f t → IsRun S y g u
-run_along S y f t g u e e' h = rw (← e, ← e') h
+pub run_sides : (S : Squares) (y f t g u : ℤ) → f ≡ g → t ≡ u → IsRun S y f t → IsRun S y g u
+run_sides S y f t g u e e' h = rw (← e, ← e') h
 
 box_equal : (a b : BoxShape) → a.layer ≡ b.layer → a.x1 ≡ b.x1 → a.y1 ≡ b.y1 → a.x2 ≡ b.x2 → a.y2 ≡ b.y2 → a ≡ b
 box_equal a b l x1 y1 x2 y2 =
@@ -40,11 +40,11 @@ same_box S a b x y p q layer i j =
     let jy : (b.y1 ≤ℤ y) = j.bottom in
     let jY : (y <ℤ b.y2) = j.top in
     let y1 : a.y1 ≡ b.y1 = between a.y1 b.y1
-    (λ h. q.bottom (run_along S (b.y1 -ℤ pos 1) a.x1 a.x2 b.x1 b.x2 x1 x2 (p.rows (b.y1 -ℤ pos 1) (record { bottom = omega (arith, ints); top = omega (arith, ints) }))))
-    (λ h. p.bottom (run_along S (a.y1 -ℤ pos 1) b.x1 b.x2 a.x1 a.x2 (sym x1) (sym x2) (q.rows (a.y1 -ℤ pos 1) (record { bottom = omega (arith, ints); top = omega (arith, ints) })))) in
+    (λ h. q.bottom (run_sides S (b.y1 -ℤ pos 1) a.x1 a.x2 b.x1 b.x2 x1 x2 (p.rows (b.y1 -ℤ pos 1) (record { bottom = omega (arith, ints); top = omega (arith, ints) }))))
+    (λ h. p.bottom (run_sides S (a.y1 -ℤ pos 1) b.x1 b.x2 a.x1 a.x2 (sym x1) (sym x2) (q.rows (a.y1 -ℤ pos 1) (record { bottom = omega (arith, ints); top = omega (arith, ints) })))) in
     let y2 : a.y2 ≡ b.y2 = between a.y2 b.y2
-    (λ h. p.top (run_along S a.y2 b.x1 b.x2 a.x1 a.x2 (sym x1) (sym x2) (q.rows a.y2 (record { bottom = omega (arith, ints); top = h }))))
-    (λ h. q.top (run_along S b.y2 a.x1 a.x2 b.x1 b.x2 x1 x2 (p.rows b.y2 (record { bottom = omega (arith, ints); top = h })))) in
+    (λ h. p.top (run_sides S a.y2 b.x1 b.x2 a.x1 a.x2 (sym x1) (sym x2) (q.rows a.y2 (record { bottom = omega (arith, ints); top = h }))))
+    (λ h. q.top (run_sides S b.y2 a.x1 a.x2 b.x1 b.x2 x1 x2 (p.rows b.y2 (record { bottom = omega (arith, ints); top = h })))) in
     box_equal a b layer x1 y1 x2 y2
 
 -- a box does not stand before itself

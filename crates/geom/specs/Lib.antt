@@ -3,4 +3,8 @@ pub mod Turns
 pub mod Chips
 pub mod Merged
 pub mod Rows
-pub mod Piles
+pub mod Wholes
+pub mod Columns
+pub mod Profiles
+pub mod Sweeps
+pub mod Conduction

@@ -7,7 +7,7 @@ use crate::layer::Layer;
 use std::marker::Model;
 
 /// The greatest distance of an edge from the origin, in lambda.
-const FARTHEST_EDGE: i64 = 0x100_0000_0000;
+pub const FARTHEST_EDGE: i64 = 0x100_0000_0000;
 
 /// A box of a layer: the squares from `x1` up to but not including `x2`, and from `y1` up to but not including
 /// `y2`, in lambda. All four edges lie within 2^40 of the origin, `x1 < x2` and `y1 < y2`.

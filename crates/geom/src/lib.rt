@@ -7,9 +7,10 @@ pub mod layer_box;
 pub mod merging;
 pub mod no_memory;
 pub mod orient;
-mod pile;
 pub mod placing;
-mod row;
+mod profile;
+mod stacking;
+mod sweep;
 #[cfg(test)]
 mod tests;
 

@@ -1,20 +1,16 @@
 // Boxes merged into runs.
 
-ghost use Rattle.std.specs.Prelude.{◌≡◌, ◌<◌, ◌+◌, ◌↔◌, ℤ, IsTrue, IfOk, OnOk};
-ghost use Rattle.geom.specs.Squares.{BoxShape, IsBox};
+ghost use Rattle.std.specs.Prelude.{◌≡◌, ◌+◌, ◌↔◌, IsTrue, IfOk, OnOk};
+ghost use Rattle.geom.specs.Squares.{IsBox};
 ghost use Rattle.geom.specs.Merged.{Merges, MergedOnce, rank};
-ghost use Rattle.geom.specs.Rows.{Among, Ascends, Over};
-ghost use Rattle.geom.specs.Piles.{IsChosen, AreEdges, IsWhole, AreLayers};
+ghost use Rattle.geom.specs.Wholes.{IsChosen, SortsRows, AreLayers};
 
 use crate::layer::Layer;
 use crate::layer_box::Box2;
 use crate::no_memory::NoMemory;
-use crate::pile::{Pile, Strip};
+use crate::stacking::stacked;
+use crate::sweep::row_runs;
 use std::alloc::Global;
-use std::collections::BTreeMap;
-
-/// The row below which no box begins, in lambda.
-const LOWEST_EDGE: i64 = -0x100_0000_0000;
 
 /// Merges boxes: the result covers the same squares of each layer. In it no two boxes of one layer share a square or
 /// a stretch of a vertical edge, and no two of one layer with equal `x1` and equal `x2` share a horizontal edge. It
@@ -45,11 +41,12 @@ fn add_layer(
     requires { AreLayers boxes.now (rank layer) merged.old.items }
     ensures { OnOk result (AreLayers boxes.now (rank layer + 1) merged.new.items) }
 {
-    let mut chosen = choose(alloc, boxes, layer)?;
-    sort_by_left(&mut chosen)?;
-    let rows = edges(alloc, &chosen)?;
-    let part = stack(alloc, &chosen, layer, &rows)?;
-    merged.extend_from_slice(&part)?;
+    let chosen = choose(alloc, boxes, layer)?;
+    let columns = stacked(alloc, chosen)?;
+    let parts = row_runs(alloc, &columns, layer)?;
+    let mut runs = stacked(alloc, parts)?;
+    sort_by_row(&mut runs)?;
+    merged.extend_from_slice(&runs)?;
     Ok(())
 }
 
@@ -74,60 +71,19 @@ fn is_of(b: &Box2, layer: Layer) -> bool
     b.layer == layer
 }
 
-/// Sorts boxes by their left edges.
-fn sort_by_left(boxes: &mut Vec<Box2>) -> Result<(), NoMemory>
-    ensures same { (b : BoxShape) → Among boxes.new.items b ↔ Among boxes.old.items b }
-    ensures ascending { OnOk result (Ascends boxes.new.items) }
+/// Sorts boxes by their lower edges, and leaves those of equal lower edges in their order.
+fn sort_by_row(boxes: &mut Vec<Box2>) -> Result<(), NoMemory>
+    ensures { OnOk result (SortsRows boxes.old.items boxes.new.items) }
 {
-    boxes.sort_by_key(|b| left_edge(b))?;
+    boxes.sort_by_key(|b| lower_edge(b))?;
     Ok(())
 }
 
-/// The left edge of the box.
-fn left_edge(b: &Box2) -> i64
-    ensures { result ≡ b.now.x1 }
+/// The lower edge of the box.
+fn lower_edge(b: &Box2) -> i64
+    ensures { result ≡ b.now.y1 }
 {
-    b.x1
-}
-
-/// The lower and upper edges of the boxes, in order.
-fn edges(alloc: Global, boxes: &[Box2]) -> Result<Vec<i64>, NoMemory>
-    ensures { IfOk result (λ rows. AreEdges boxes.now rows.items) }
-{
-    let mut rows = Vec::new(alloc);
-    for b in boxes {
-        rows.push(b.y1)?;
-        rows.push(b.y2)?;
-    }
-    rows.sort()?;
-    Ok(rows)
-}
-
-/// The merged boxes of boxes of one layer, which ascend by left edge.
-fn stack(alloc: Global, boxes: &[Box2], layer: Layer, rows: &[i64]) -> Result<Vec<Box2>, NoMemory>
-    requires boxes { (b : BoxShape) → Among boxes.now b → IsBox b }
-    requires ascending { Ascends boxes.now }
-    requires edges { AreEdges boxes.now rows.now }
-    ensures { IfOk result (λ merged. IsWhole (Over boxes.now) layer merged.items) }
-{
-    let mut pile = Pile {
-        boxes: Vec::new(alloc),
-        tops: BTreeMap::new(alloc),
-    };
-    let mut from = LOWEST_EDGE;
-    for to in rows {
-        pile.raise_to(
-            alloc,
-            boxes,
-            Strip {
-                layer,
-                from,
-                to: *to,
-            },
-        )?;
-        from = *to;
-    }
-    Ok(pile.boxes)
+    b.y1
 }
 
 /// What boxes merge into is a function of their squares.

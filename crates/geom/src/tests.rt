@@ -67,6 +67,36 @@ fn turns_in_eight_ways(rt: HostRuntime) {
     }
 }
 
+#[test]
+fn composes_in_sixty_four_ways(rt: HostRuntime) {
+    let ways: [Orient; 8] = [
+        orient(false, false, false),
+        orient(false, true, false),
+        orient(false, false, true),
+        orient(false, true, true),
+        orient(true, false, false),
+        orient(true, true, false),
+        orient(true, false, true),
+        orient(true, true, true),
+    ];
+    // The number of each way followed by each other.
+    let composed: [[usize; 8]; 8] = [
+        [0, 1, 2, 3, 4, 5, 6, 7],
+        [1, 0, 3, 2, 6, 7, 4, 5],
+        [2, 3, 0, 1, 5, 4, 7, 6],
+        [3, 2, 1, 0, 7, 6, 5, 4],
+        [4, 5, 6, 7, 0, 1, 2, 3],
+        [5, 4, 7, 6, 2, 3, 0, 1],
+        [6, 7, 4, 5, 1, 0, 3, 2],
+        [7, 6, 5, 4, 3, 2, 1, 0],
+    ];
+    for (first, row) in ways.iter().copied().zip(composed.iter()) {
+        for (next, at) in ways.iter().copied().zip(row.iter()) {
+            assert!(rt; ways.get(*at).copied() == Some(first.then(next)));
+        }
+    }
+}
+
 /// These boxes merged.
 fn merged(alloc: Global, drawn: &[Option<Box2>]) -> Result<Vec<Box2>, NoMemory> {
     let mut boxes = Vec::new(alloc);
@@ -78,23 +108,72 @@ fn merged(alloc: Global, drawn: &[Option<Box2>]) -> Result<Vec<Box2>, NoMemory> 
     merge_runs(alloc, &boxes)
 }
 
+/// The boxes merge into these, in this order.
+fn merge_into(
+    alloc: Global,
+    drawn: &[Option<Box2>],
+    wanted: &[Option<Box2>],
+) -> Result<bool, NoMemory> {
+    let runs = merged(alloc, drawn)?;
+    let mut all = runs.len() == wanted.len();
+    for (run, wanted) in runs.iter().zip(wanted.iter()) {
+        all = all && Some(*run) == *wanted;
+    }
+    Ok(all)
+}
+
 #[test]
 fn merges_boxes_that_meet(rt: HostRuntime) -> Result<(), Fail> {
     let met = [metal(0, 0, 4, 2), metal(2, 0, 6, 2), metal(0, 2, 6, 4)];
-    let one = merged(rt.alloc(), &met)?;
-    assert_eq!(rt; one.len(), 1);
-    assert!(rt; one.first().copied() == metal(0, 0, 6, 4));
+    assert!(rt; merge_into(rt.alloc(), &met, &[metal(0, 0, 6, 4)])?);
     let step = [metal(2, 1, 5, 3), metal(0, 0, 3, 2), metal(7, 0, 8, 2)];
-    let runs = merged(rt.alloc(), &step)?;
-    let wanted = [
+    let runs = [
         metal(0, 0, 3, 1),
         metal(7, 0, 8, 2),
         metal(0, 1, 5, 2),
         metal(2, 2, 5, 3),
     ];
-    assert_eq!(rt; runs.len(), wanted.len());
-    for (run, wanted) in runs.iter().zip(wanted.iter()) {
-        assert!(rt; Some(*run) == *wanted);
-    }
+    assert!(rt; merge_into(rt.alloc(), &step, &runs)?);
+    Ok(())
+}
+
+#[test]
+fn merges_columns_drawn_in_pieces(rt: HostRuntime) -> Result<(), Fail> {
+    let pieces = [metal(0, 3, 2, 5), metal(0, 0, 2, 3), metal(0, 1, 2, 4)];
+    assert!(rt; merge_into(rt.alloc(), &pieces, &[metal(0, 0, 2, 5)])?);
+    let stairs = [metal(0, 0, 1, 1), metal(1, 0, 2, 2), metal(2, 0, 3, 3)];
+    let treads = [metal(0, 0, 3, 1), metal(1, 1, 3, 2), metal(2, 2, 3, 3)];
+    assert!(rt; merge_into(rt.alloc(), &stairs, &treads)?);
+    Ok(())
+}
+
+#[test]
+fn keeps_holes_corners_and_gaps(rt: HostRuntime) -> Result<(), Fail> {
+    let frame = [
+        metal(0, 0, 6, 1),
+        metal(0, 1, 2, 3),
+        metal(4, 1, 6, 3),
+        metal(0, 3, 6, 4),
+    ];
+    assert!(rt; merge_into(rt.alloc(), &frame, &frame)?);
+    let corner = [metal(1, 1, 2, 2), metal(0, 0, 1, 1)];
+    let rows = [metal(0, 0, 1, 1), metal(1, 1, 2, 2)];
+    assert!(rt; merge_into(rt.alloc(), &corner, &rows)?);
+    let above = [metal(0, 0, 1, 1), metal(0, 2, 1, 3)];
+    assert!(rt; merge_into(rt.alloc(), &above, &above)?);
+    assert!(rt; merge_into(rt.alloc(), &[], &[])?);
+    Ok(())
+}
+
+#[test]
+fn merges_each_layer_within_reach(rt: HostRuntime) -> Result<(), Fail> {
+    let far = 1099511627776;
+    let plane = metal(-far, -far, far, far);
+    let hidden = [metal(0, 0, 1, 1), plane, metal(far - 1, far - 1, far, far)];
+    assert!(rt; merge_into(rt.alloc(), &hidden, &[plane])?);
+    let poly = Box2::new(Layer::Poly, 0, 5, 2, 6);
+    let cut = Box2::new(Layer::Cut, 0, 0, 2, 2);
+    let drawn = [cut, metal(2, 0, 4, 2), poly];
+    assert!(rt; merge_into(rt.alloc(), &drawn, &[poly, metal(2, 0, 4, 2), cut])?);
     Ok(())
 }

@@ -1,6 +1,6 @@
 -- A box of the layer is added, and another passed over.
 use Rattle.std.proofs.Common.{rules, ◌≡◌, refl, IsTrue}
-use Rattle.geom.proofs.Stacks.{chosen_at, chosen_past}
+use Rattle.geom.proofs.Chosen.{chosen_at, chosen_past}
 use Rattle.geom.proofs.merging.choose.Goals as goal
 use Rattle.geom.proofs.merging.choose.Goals.{then-is_of+in_ok-push, else-is_of}
 

@@ -1,6 +1,6 @@
 -- The boxes so far are chosen.
 use Rattle.std.proofs.Common.{take}
-use Rattle.geom.specs.Piles.{IsChosen}
+use Rattle.geom.specs.Wholes.{IsChosen}
 use Rattle.geom.proofs.merging.choose.Given as goal
 
 abbrev pub invariant-loop-b : goal.invariant-loop-b
