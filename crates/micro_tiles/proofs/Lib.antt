@@ -1,0 +1,17 @@
+pub mod Present
+pub mod TableRows
+pub mod BoxTests
+pub mod EachSide
+pub mod EachTile
+pub mod StripTests
+pub mod StripFacts
+pub mod ShapeFacts
+pub mod Paths
+pub mod Mirrors
+pub mod RegionFacts
+pub mod OneShape
+pub mod Halves
+pub mod NetFacts
+pub mod PortFacts
+pub mod SideFacts
+pub mod SmallDrawings

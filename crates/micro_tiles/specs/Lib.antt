@@ -1,0 +1,11 @@
+pub mod Sides
+pub mod Designs
+pub mod Boxes
+pub mod Slots
+pub mod Table
+pub mod Strips
+pub mod Shapes
+pub mod Nets
+pub mod Regions
+pub mod Transposes
+pub mod Examples
