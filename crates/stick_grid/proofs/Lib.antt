@@ -1,0 +1,5 @@
+mod Moves
+mod Filled
+mod Turned
+mod Beside
+mod Above

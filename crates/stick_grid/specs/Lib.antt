@@ -1,0 +1,3 @@
+pub mod Tilings
+pub mod Joins
+pub mod Drawings
