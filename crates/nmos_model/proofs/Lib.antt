@@ -1,0 +1,12 @@
+pub mod Paths
+pub mod Common
+pub mod Floods
+pub mod Opening
+pub mod Painting
+pub mod Places
+pub mod Boxes
+pub mod Frames
+pub mod Neighbours
+pub mod Conducting
+pub mod Found
+pub mod Merged
