@@ -5,7 +5,7 @@ use Rattle.std.proofs.lemmas.List.{drop_all}
 use Rattle.net_text.specs.Reading.{agreeing}
 
 -- one step, where the first bytes are the same and where they are not
-agree_same : (a b : ℕ) (w r : List ℕ) → a ≡ b → agreeing (a ∷ w) (b ∷ r) ≡ suc (agreeing w r)
+pub agree_same : (a b : ℕ) (w r : List ℕ) → a ≡ b → agreeing (a ∷ w) (b ∷ r) ≡ suc (agreeing w r)
 agree_same a b w r e = rw e (elim (cases_Bool (b == b)) [
   | inl one ↦ rw one refl
   | inr other ↦ (let right : (b == b) ≡ true = search rules in let clash : true ≡ false = sym right ∙ other in cc)

@@ -32,6 +32,16 @@ device_inside : (nets : ℕ) (device : Device) → NamesBelow nets device → is
 device_inside nets (Pass gate a b) h = rw (lt-leb _ _ h.0, lt-leb _ _ h.1, lt-leb _ _ h.2) refl
 device_inside nets (Load net) h = lt-leb _ _ h
 
+-- the pad that repeats another is one of the pads
+pub repeat_within : (before ps : List Pad) (at : ℕ) → first_repeat before ps ≡ Some at → at < length before + length ps
+repeat_within before [] at e = absurd (cc)
+repeat_within before (p ∷ ps) at e = by_test (repeats before p) refl (repeat_within (before ++ p ∷ []) ps at)
+  where
+    by_test : (b : Bool) → repeats before p ≡ b → (first_repeat (before ++ p ∷ []) ps ≡ Some at → at < length (before ++ p ∷ []) + length ps)
+        → at < length before + length (p ∷ ps)
+    by_test true t later = let said = rw t at e in let same : length before ≡ at = cc in omega (arith, same)
+    by_test false t later = let h = later (rw t at e) in omega (arith, rw length-append at h)
+
 module _ (text : List ℕ) (nets : ℕ) (pads : List Pad) (devices : List Device) (read : IsRead text nets pads devices) where
   outside_none : first_outside nets pads devices ≡ None
   outside_none =
@@ -49,16 +59,6 @@ module _ (text : List ℕ) (nets : ℕ) (pads : List Pad) (devices : List Device
       by_parts None None h = cc
       by_parts None (Some role) h = let clash : NetOutOfRange at ≡ MissingPad role = cc in cc
       by_parts (Some n) m h = let clash : NetOutOfRange at ≡ DoublePad n = cc in cc
-
-  -- the pad that repeats another is one of the pads
-  repeat_within : (before ps : List Pad) (at : ℕ) → first_repeat before ps ≡ Some at → at < length before + length ps
-  repeat_within before [] at e = absurd (cc)
-  repeat_within before (p ∷ ps) at e = by_test (repeats before p) refl (repeat_within (before ++ p ∷ []) ps at)
-    where
-      by_test : (b : Bool) → repeats before p ≡ b → (first_repeat (before ++ p ∷ []) ps ≡ Some at → at < length (before ++ p ∷ []) + length ps)
-          → at < length before + length (p ∷ ps)
-      by_test true t later = let said = rw t at e in let same : length before ≡ at = cc in omega (arith, same)
-      by_test false t later = let h = later (rw t at e) in omega (arith, rw length-append at h)
 
   pub repeat_below : (bad : BadNetwork) → Some bad ≡ first_fault nets pads devices → (at : ℕ) → bad ≡ DoublePad at → at < length pads
   repeat_below bad e at is = by_parts (first_repeat [] pads) (first_missing pads) refl (rw outside_none at (sym (ap (λ b. Some b) is) ∙ e))

@@ -9,7 +9,8 @@ use Rattle.rx_text.specs.NumberInText.{is_digit}
 use Rattle.rx_text.specs.NumberInText as text
 use Rattle.rx_text.specs.declared.number.NumberFault.{NumberFault}
 use Rattle.rx_text.specs.declared.number.NumberFault.TheVariants.{NumberTooLarge}
-use Rattle.net_text.specs.Reading.{numeral_length, number_of, number_below}
+use Rattle.net_text.specs.Shape.{numeral_length}
+use Rattle.net_text.specs.Reading.{number_of, number_below}
 use Rattle.net_text.specs.declared.net_fault.NetCode.{NetCode}
 use Rattle.net_text.specs.declared.words.TextFault.{TextFault}
 

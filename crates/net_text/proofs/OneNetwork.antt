@@ -42,22 +42,27 @@ circuit_of_same : (m n : ℕ) (ps qs : List Pad) (ds es : List Device) → m ≡
     → ◌≡◌ {A = Circuit} (record { nets = m; pads = ps; devices = ds }) (record { nets = n; pads = qs; devices = es })
 circuit_of_same m n ps qs ds es e f g = cc
 
-pub one_network : TextIsOfOneNetwork
-one_network bytes a b names_a names_b text_a text_b =
-    let same : network_text a ≡ network_text b = sym text_a.text ∙ text_b.text in
+-- the text of a circuit is that of one alone, where names are where they belong and nets are in range
+pub same_circuit : (a b : Circuit) → network_text a ≡ network_text b → All IsNamed a.pads → All IsNamed b.pads
+    → All (λ pad. pad.net.0 < a.nets) a.pads → All (λ pad. pad.net.0 < b.nets) b.pads → All (NamesBelow a.nets) a.devices → All (NamesBelow b.nets) b.devices
+    → a.nets ≤ 16777216 → b.nets ≤ 16777216 → a ≡ b
+same_circuit a b same names_a names_b pads_a pads_b devices_a devices_b few_a few_b =
     let lines = simp append_assoc at same in
     let numbers : decimal a.nets ++ (10 ∷ (flat_map pad_line a.pads ++ (flat_map device_line a.devices ++ codes "end\n")))
     ≡ decimal b.nets ++ (10 ∷ (flat_map pad_line b.pads ++ (flat_map device_line b.devices ++ codes "end\n"))) =
     cc lines in
-    let few_a = text_a.few_nets in
-    let few_b = text_b.few_nets in
     let nets = number_same a.nets b.nets 10 _ _ (omega arith) (omega arith) line_feed_ends numbers in
     let pads =
     lines_same pad_line IsPlain 0 kind-pad_line pad_line_same a.pads b.pads _ _
-    (plain_pads _ _ names_a text_a.network.pads_below few_a) (plain_pads _ _ names_b text_b.network.pads_below few_b)
+    (plain_pads _ _ names_a pads_a few_a) (plain_pads _ _ names_b pads_b few_b)
     (no_pad a.devices) (no_pad b.devices) nets.1 in
     let devices =
     lines_same device_line IsShort 1 kind-device_line device_line_same a.devices b.devices (codes "end\n") (codes "end\n")
-    (short_devices _ _ text_a.network.devices_below few_a) (short_devices _ _ text_b.network.devices_below few_b)
+    (short_devices _ _ devices_a few_a) (short_devices _ _ devices_b few_b)
     no_device no_device pads.1 in
     circuit_of_same a.nets b.nets a.pads b.pads a.devices b.devices nets.0 pads.0 devices.0
+
+pub one_network : TextIsOfOneNetwork
+one_network bytes a b names_a names_b text_a text_b =
+    same_circuit a b (sym text_a.text ∙ text_b.text) names_a names_b text_a.network.pads_below text_b.network.pads_below
+    text_a.network.devices_below text_b.network.devices_below text_a.few_nets text_b.few_nets

@@ -21,10 +21,12 @@ use Rattle.std.specs.Str.Parse.{AllDigits, digits_value}
 use Rattle.rx_text.specs.NumberInText.{is_digit}
 use Rattle.rx_text.proofs.Digits.{run_all}
 use Rattle.net_text.proofs.ReadBack.{both_true}
-use Rattle.net_text.specs.Reading.{agreeing, word_at, numeral_length, number_of, number_below, number_then, number_at, with_read, name_length, name_at, line_at, line_found, line_word, begins_line, later_lines}
+use Rattle.net_text.specs.Reading.{agreeing, word_at, number_of, number_below, number_then, number_at, with_read, name_length, name_at, line_at, line_found, line_word, begins_line, later_lines}
+use Rattle.net_text.specs.Shape.{numeral_length}
 use Rattle.net_text.specs.Steps.{Reads}
 use Rattle.net_text.specs.declared.words.TextFault.{TextFault}
 use Rattle.net_text.proofs.Agreeing.{agree_within, agree_whole}
+use Rattle.net_text.proofs.Searches.{found_among}
 
 -- two steps
 pub Reads-trans : {text : List ℕ} {at mid next : ℕ} {v w : List ℕ} → Reads text at mid v → Reads text mid next w → Reads text at next (v ++ w)
@@ -33,6 +35,11 @@ Reads-trans {text} {at} {mid} {next} {v} {w} first second = record {
   further = rw length-append (omega (arith, first.further, second.further));
   within = second.within;
 }
+
+-- the front of two lists
+pub take_front : (xs ys : List ℕ) → take (length xs) (xs ++ ys) ≡ xs
+take_front [] ys = refl
+take_front (x ∷ xs) ys = ap (λ l. x ∷ l) (take_front xs ys)
 
 -- bytes that stand behind a place
 pub Reads-here : (text : List ℕ) (at : ℕ) (v rest : List ℕ) → at ≤ length text → drop at text ≡ v ++ rest → Reads text at (at + length v) v
@@ -44,10 +51,6 @@ Reads-here text at v rest within e =
       within = omega (arith, size, length-drop at text);
     }
   where
-    take_front : (v rest : List ℕ) → take (length v) (v ++ rest) ≡ v
-    take_front [] rest = refl
-    take_front (c ∷ v) rest = ap (λ l. c ∷ l) (take_front v rest)
-
     take_on : (at : ℕ) (text v rest : List ℕ) → at ≤ length text → drop at text ≡ v ++ rest → take (at + length v) text ≡ take at text ++ v
     take_on zero text v rest h e = let n : 0 + length v ≡ length v = omega arith in let whole : text ≡ v ++ rest = e in rw (n, whole) (take_front v rest)
     take_on (suc at) [] v rest h e = absurd (omega (arith, h))
@@ -180,15 +183,6 @@ module _ (text : List ℕ) (at next : ℕ) (name : List ℕ) (within : at ≤ le
       by_test true t = before_space _ t refl (rw t at e)
       by_test false t = let wrong = rw t at e in absurd (cc)
 
--- what is found passes
-find_passes : {X : Type 0} (p : X → Bool) (xs : List X) (x : X) → find p xs ≡ Some x → p x ≡ true
-find_passes p [] x e = absurd (cc)
-find_passes p (y ∷ ys) x e = by_test (p y) refl (find_passes p ys x)
-  where
-    by_test : (b : Bool) → p y ≡ b → (find p ys ≡ Some x → p x ≡ true) → p x ≡ true
-    by_test true t later = let said = rw t at e in let same : y ≡ x = cc in rw (← same) t
-    by_test false t later = later (rw t at e)
-
 -- the word of a line that was found
 pub Reads-line : (kinds : List LineKind) (text : List ℕ) (at next : ℕ) (kind : LineKind) → at ≤ length text
     → line_at kinds at (drop at text) ≡ Ok (kind, next) → Reads text at next (line_word kind)
@@ -201,7 +195,7 @@ Reads-line kinds text at next kind within e = found (find (begins_line (drop at 
         let pair : ◌≡◌ {A = LineKind × ℕ} (k, at + length (line_word k)) (kind, next) = cc in
         let same : k ≡ kind = ap (λ (p : LineKind × ℕ). p.0) pair in
         let same_next : at + length (line_word k) ≡ next = ap (λ (p : LineKind × ℕ). p.1) pair in
-        let whole : agreeing (line_word k) (drop at text) ≡ length (line_word k) = eqb-true _ _ (find_passes _ kinds k f) in
+        let whole : agreeing (line_word k) (drop at text) ≡ length (line_word k) = eqb-true _ _ (found_among _ kinds k f).1 in
         rw (← same, ← same_next) (Reads-here text at (line_word k) _ within (agree_whole (line_word k) (drop at text) whole))
 
 -- no pad stands behind a device

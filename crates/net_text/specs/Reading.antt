@@ -4,7 +4,7 @@ use Rattle.std.specs.List.{fold, prefix_len}
 use Rattle.rx_text.specs.Name.{is_name, is_name_byte}
 use Rattle.net_text.specs.declared.words.TextFault.{TextFault}
 use Rattle.std.specs.Str.Parse.{digits_value}
-use Rattle.rx_text.specs.NumberInText.{is_digit}
+use Rattle.net_text.specs.Shape.{numeral_length}
 use Rattle.rx_text.specs.declared.pad_name.Role.TheVariants.{Vdd, Gnd, Phi1, Phi2, Reset, Input, Output}
 use Rattle.net_text.specs.NetworkText.{role_word}
 use Rattle.net_text.specs.declared.line_kind.LineKind.{LineKind}
@@ -58,11 +58,6 @@ first_lines = Pad Vdd ∷ Pad Gnd ∷ Pad Phi1 ∷ Pad Phi2 ∷ Pad Reset ∷ Pa
 -- the lines that may follow a device
 abbrev pub later_lines : List LineKind
 later_lines = Pass ∷ Load ∷ End ∷ []
-
--- how many bytes at the front are one numeral: `0` alone, or the longest run of digits
-abbrev pub numeral_length : List ℕ → ℕ
-numeral_length [] = 0
-numeral_length (first ∷ rest) = if first == 48 then 1 else prefix_len is_digit (first ∷ rest)
 
 -- the number that these digits write, where there are some and it is below the limit; the place behind them
 abbrev pub number_of : ℕ → NetCode → ℕ → List ℕ → Result (ℕ × ℕ) TextFault

@@ -1,24 +1,20 @@
 -- What a step of the reader read.
-use Rattle.std.specs.Prelude.{⊤, ◌⊎◌, ◌≡◌, ℕ, ◌+◌, ◌<◌, ◌≤◌, true, List, ◌++◌, All, Option, Some, None, is_some, IfSome, length, take, codes}
+use Rattle.std.specs.Prelude.{⊤, ◌≡◌, ℕ, ◌+◌, ◌<◌, ◌≤◌, Bool, true, false, List, [], ◌∷◌, ◌++◌, All, Option, Some, None, is_some, IfSome, length, take, codes}
 use Rattle.std.specs.List.{flat_map}
 use Rattle.rx_text.specs.Name.{is_name}
 use Rattle.rx_text.specs.Role.{NamedRole, bears_name}
 use Rattle.rx_text.specs.declared.pad_name.Role.{Role}
-use Rattle.switch_net.specs.Circuit.{Circuit}
 use Rattle.switch_net.specs.ClockedLogic.{NamesBelow}
 use Rattle.switch_net.specs.declared.network.Pad.{Pad}
 use Rattle.switch_net.specs.declared.network.Device.{Device}
 use Rattle.rx_text.specs.declared.place.Place.TheVariants.{Text}
 use Rattle.switch_net.specs.declared.network.BadNetwork.{BadNetwork}
 use Rattle.switch_net.specs.declared.network.BadNetwork.TheVariants.{NetOutOfRange, DoublePad, MissingPad}
-use Rattle.net_text.specs.declared.net_fault.NetCode.TheVariants.{N1, N2, N3, N4, N5, N6}
-use Rattle.net_text.specs.NetRefusals.{Writes, CircuitFault}
-use Rattle.net_text.specs.declared.net_fault.NetCode.{NetCode}
-use Rattle.net_text.specs.declared.net_fault.ReadNetFault.{ReadNetFault}
-use Rattle.net_text.specs.declared.net_fault.ReadNetFault.TheVariants as answer
+use Rattle.net_text.specs.declared.net_fault.NetCode.TheVariants.{N3, N4}
+use Rattle.net_text.specs.NetRefusals.{NoneStands}
+use Rattle.net_text.specs.Stages.{DueAt, LinesDue, IsFirst}
 use Rattle.net_text.specs.declared.reading.Stop.{Stop}
 use Rattle.net_text.specs.declared.reading.Stop.TheVariants as stop
-use Rattle.net_text.specs.declared.words.TextFault.{TextFault}
 use Rattle.net_text.specs.declared.net_fault.NetFault.{NetFault}
 use Rattle.net_text.specs.NetworkText.{role_word, name_part, head_lines, pad_line, device_line, IsNamed}
 use Rattle.net_text.specs.Reading.{line_word}
@@ -53,7 +49,12 @@ pub record ReadsDevice (text : List ℕ) (at next : ℕ) (kind : LineKind) (nets
   pub line : line_word kind ++ rest ≡ device_line device
   pub below : NamesBelow nets device
 
--- Up to this place the text is the head and the lines of these pads and devices, whose nets are in range.
+-- no device stands there yet
+abbrev pub no_devices : List Device → Bool
+no_devices [] = true
+no_devices (device ∷ devices) = false
+
+-- Up to this place the text is the head and the lines of these pads and devices, whose nets are in range, and more lines are due.
 pub record ReadTo (text : List ℕ) (nets : ℕ) (pads : List Pad) (devices : List Device) (at : ℕ) : Type 0 where
   pub front : take at text ≡ head_lines nets ++ flat_map pad_line pads ++ flat_map device_line devices
   pub within : at ≤ length text
@@ -62,12 +63,14 @@ pub record ReadTo (text : List ℕ) (nets : ℕ) (pads : List Pad) (devices : Li
   pub named : All IsNamed pads
   pub pads_below : All (λ pad. pad.net.0 < nets) pads
   pub devices_below : All (NamesBelow nets) devices
+  pub due : DueAt nets text at (LinesDue (no_devices devices))
 
--- The text is the head, these lines, and the line `end`.
+-- The text is the head, these lines, and the line `end`, and no code stands in it.
 pub record IsRead (text : List ℕ) (nets : ℕ) (pads : List Pad) (devices : List Device) : Type 0 where
   pub before : ℕ
   pub parts : ReadTo text nets pads devices before
   pub whole : text ≡ take before text ++ codes "end\n"
+  pub clear : NoneStands text
 
 -- one more line, which ends at the place, or is the last one
 abbrev pub ReadLine : List ℕ → ℕ → List Pad → List Device → ℕ → Option ℕ → Type 0
@@ -80,27 +83,7 @@ IsFaultOf (NetOutOfRange at) last fault = ⊥
 IsFaultOf (DoublePad at) last fault = (fault.code ≡ N3) × (fault.place ≡ Text (at + 3) 1)
 IsFaultOf (MissingPad role) last fault = (fault.code ≡ N4) × (fault.place ≡ Text last 1)
 
--- the codes that stand at a byte or at the end
-abbrev pub IsByteCode : NetCode → Type 0
-IsByteCode N1 = ⊤
-IsByteCode N2 = ⊤
-IsByteCode N3 = ⊥
-IsByteCode N4 = ⊥
-IsByteCode N5 = ⊤
-IsByteCode N6 = ⊤
-
--- a fault that stands at a byte of the text or at its end
-pub record StandsIn (text : List ℕ) (fault : TextFault) : Type 0 where
-  pub within : fault.at ≤ length text
-  pub code : IsByteCode fault.code
-
--- where reading stopped at a fault it stands in the text
-abbrev pub StopsIn : List ℕ → Stop → Type 0
-StopsIn text stop.NoMemory = ⊤
-StopsIn text (stop.Fault fault) = StandsIn text fault
-
--- a fault of the lines, whose nets are all in range
-abbrev pub HasCircuitFault : List ℕ → ReadNetFault → Type 0
-HasCircuitFault text answer.NoMemory = ⊤
-HasCircuitFault text (answer.Fault fault) =
-    IsByteCode fault.code ⊎ ((circuit : Circuit) × Writes text circuit × CircuitFault fault.code circuit fault.place)
+-- where reading stopped at a fault, it is the first in the text
+abbrev pub StopsFirst : List ℕ → Stop → Type 0
+StopsFirst text stop.NoMemory = ⊤
+StopsFirst text (stop.Fault fault) = IsFirst text fault

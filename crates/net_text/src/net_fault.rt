@@ -7,15 +7,15 @@ use thiserror::Error;
 /// What is wrong with the text of a network.
 #[derive(Clone, Copy, Debug, PartialEq, Eq)]
 pub enum NetCode {
-    /// Syntax: no text of the shape goes on with this byte, or ends here.
+    /// Syntax: no text of the shape goes on with this byte, or the text ends too early.
     N1,
-    /// A net is not below the number of nets.
+    /// A net is not below the number of nets. It stands at the first digit of the net.
     N2,
     /// A pad repeats the name or the net of an earlier pad.
     N3,
     /// A supply, a clock or the reset has no pad.
     N4,
-    /// There are more than 16,777,216 nets.
+    /// There are more than 16,777,216 nets. It stands at the first digit of their number.
     N5,
     /// A byte stands behind the line `end`.
     N6,

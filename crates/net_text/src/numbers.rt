@@ -1,12 +1,11 @@
 // Numbers and names that are due at a place in a text.
 
-ghost use Rattle.std.specs.Prelude.{◌≡◌, ◌≤◌, ◌+◌, length, drop, take, OnOk, IfErr, ◌⊎◌};
-ghost use Rattle.net_text.specs.Steps.{StandsIn, IsByteCode};
-ghost use Rattle.net_text.specs.declared.net_fault.NetCode.TheVariants.{N1};
+ghost use Rattle.std.specs.Prelude.{◌≡◌, ◌≤◌, ◌+◌, length, drop, take, OnOk};
 ghost use Rattle.std.specs.List.{prefix_len};
 ghost use Rattle.rx_text.specs.Name.{is_name_byte};
 ghost use Rattle.rx_text.specs.NumberInText.{is_digit};
-ghost use Rattle.net_text.specs.Reading.{numeral_length, number_below, number_at, name_length, name_at};
+ghost use Rattle.net_text.specs.Shape.{numeral_length};
+ghost use Rattle.net_text.specs.Reading.{number_below, number_at, name_length, name_at};
 
 use crate::net_fault::NetCode;
 use crate::words::{TextFault, behind_word, syntax};
@@ -25,10 +24,8 @@ pub fn number_before(
     code: NetCode,
     word: &[u8],
 ) -> Result<(u32, usize), TextFault>
-    requires within { at ≤ length text.now }
-    requires code { IsByteCode code }
-    ensures is { result ≡ number_at limit code word.now at text.now }
-    ensures fault { IfErr result (λ fault. StandsIn text.now fault) }
+    requires { at ≤ length text.now }
+    ensures { result ≡ number_at limit code word.now at text.now }
 {
     let (value, behind) = number_below(text, at, limit, code)?;
     let next = behind_word(text, behind, word)?;
@@ -44,7 +41,6 @@ fn number_below(
 ) -> Result<(u32, usize), TextFault>
     requires { at ≤ length text.now }
     ensures is { result ≡ number_below limit code at (drop at text.now) }
-    ensures fault { IfErr result (λ fault. (fault.at ≡ at) × ((fault.code ≡ N1) ⊎ (fault.code ≡ code))) }
     ensures inside { OnOk result (at + numeral_length (drop at text.now) ≤ length text.now) }
 {
     let (_, rest) = text.split_at(at);
@@ -90,8 +86,7 @@ fn is_digit(byte: u8) -> bool
 /// The name that is due here, and the place behind it and the space that follows it.
 pub fn name_before_space(text: &[u8], at: usize) -> Result<(Name, usize), TextFault>
     requires { at ≤ length text.now }
-    ensures is { result ≡ name_at at text.now }
-    ensures fault { IfErr result (λ fault. StandsIn text.now fault) }
+    ensures { result ≡ name_at at text.now }
 {
     let (_, rest) = text.split_at(at);
     let count = name_length(rest);

@@ -1,15 +1,17 @@
 // The reader of a network's text.
 
-ghost use Rattle.std.specs.Prelude.{ℕ, ◌≡◌, ◌<◌, ◌≤◌, ◌+◌, ◌-◌, ◌^◌, ◌++◌, [], nat_lt, if◌then◌else◌, Ok, Err, length, drop, All, IsTrue, IfOk, IfErr};
+ghost use Rattle.std.specs.Prelude.{ℕ, ◌≡◌, ◌<◌, ◌≤◌, ◌+◌, ◌-◌, ◌^◌, ◌++◌, [], true, false, nat_lt, if◌then◌else◌, Ok, Err, length, take, drop, All, IsTrue, IfOk, IfErr};
 ghost use Rattle.std.specs.Fmt.{decimal};
 ghost use Rattle.net_text.specs.NetworkText.{IsNamed, IsNetworkText};
-ghost use Rattle.net_text.specs.Reading.{first_lines, later_lines, line_at, line_word};
-ghost use Rattle.net_text.specs.Steps.{Reads, ReadsName, ReadsPad, ReadsDevice, ReadTo, ReadLine, IsRead, IsFaultOf, StandsIn, StopsIn, HasCircuitFault};
+ghost use Rattle.net_text.specs.NetRefusals.{IsReadFault};
+ghost use Rattle.net_text.specs.Reading.{first_lines, later_lines, line_at, line_word, number_at};
+ghost use Rattle.net_text.specs.Stages.{PadNet, BehindRole, BehindPass, LinesDue, DueAt, EndsInSpace, IsFirst};
+ghost use Rattle.net_text.specs.Steps.{Reads, ReadsName, ReadsPad, ReadsDevice, ReadTo, ReadLine, IsRead, IsFaultOf, StopsFirst};
 ghost use Rattle.rx_text.specs.declared.pad_name.Role.{Role};
 ghost use Rattle.switch_net.specs.declared.network.BadNetwork.TheVariants.{NetOutOfRange, DoublePad};
 ghost use Rattle.rx_text.specs.declared.place.Place.TheVariants.{Text};
 ghost use Rattle.net_text.specs.declared.line_kind.LineKind.TheVariants as kind;
-ghost use Rattle.net_text.specs.declared.net_fault.NetCode.TheVariants.{N6};
+ghost use Rattle.net_text.specs.declared.net_fault.NetCode.TheVariants.{N2, N6};
 
 use crate::line_kind::LineKind;
 use crate::net_fault::{NetCode, NetFault, ReadNetFault};
@@ -81,7 +83,7 @@ impl Parts {
         requires { ReadTo text.now self.old.nets self.old.pads.items self.old.devices.items at }
         ensures line { IfOk result
             (λ next. ReadLine text.now self.new.nets self.new.pads.items self.new.devices.items at next) }
-        ensures fault { IfErr result (λ stop. StopsIn text.now stop) }
+        ensures fault { IfErr result (λ stop. StopsFirst text.now stop) }
     {
         let (kind, behind) = first_word(text, at, self.devices.is_empty())?;
         match kind {
@@ -113,7 +115,6 @@ fn first_word(text: &[u8], at: usize, pads_may_follow: bool) -> Result<(LineKind
     requires { at ≤ length text.now }
     ensures is { result ≡ line_at (if pads_may_follow then first_lines else later_lines) at (drop at text.now) }
     ensures reads { IfOk result (λ read. Reads text.now at read.1 (line_word read.0)) }
-    ensures fault { IfErr result (λ fault. StandsIn text.now fault) }
     ensures pads_first { IfOk result (λ read. (role : Role) → read.0 ≡ kind.Pad role → IsTrue pads_may_follow) }
 {
     if pads_may_follow {
@@ -125,8 +126,7 @@ fn first_word(text: &[u8], at: usize, pads_may_follow: bool) -> Result<(LineKind
 
 /// Tests that the text ends here.
 fn end_of_text(text: &[u8], at: usize) -> Result<(), TextFault>
-    ensures is { result ≡ if nat_lt at (length text.now) then Err (record { code = N6; at = at }) else Ok tt }
-    ensures fault { IfErr result (λ fault. StandsIn text.now fault) }
+    ensures { result ≡ if nat_lt at (length text.now) then Err (record { code = N6; at = at }) else Ok tt }
 {
     if at < text.len() {
         return Err(TextFault {
@@ -139,9 +139,12 @@ fn end_of_text(text: &[u8], at: usize) -> Result<(), TextFault>
 
 /// The rest of a pad's line.
 fn read_pad(text: &[u8], at: usize, role: Role, nets: u32) -> Result<(Pad, usize), TextFault>
-    requires { at ≤ length text.now }
+    requires within { at ≤ length text.now }
+    requires due { DueAt nets text.now at (BehindRole role) }
+    requires space { EndsInSpace (take at text.now) }
     ensures read { IfOk result (λ read. ReadsPad text.now at read.1 role nets read.0) }
-    ensures fault { IfErr result (λ fault. StandsIn text.now fault) }
+    ensures due { IfOk result (λ read. DueAt nets text.now read.1 (LinesDue true)) }
+    ensures fault { IfErr result (λ fault. IsFirst text.now fault) }
 {
     let (name, at) = read_pad_name(text, at, role)?;
     let (net, next) = read_net_before(text, at, nets, b"\n")?;
@@ -150,9 +153,12 @@ fn read_pad(text: &[u8], at: usize, role: Role, nets: u32) -> Result<(Pad, usize
 
 /// The name of a pad with this role, and the place of its net.
 fn read_pad_name(text: &[u8], at: usize, role: Role) -> Result<(PadName, usize), TextFault>
-    requires { at ≤ length text.now }
+    requires within { at ≤ length text.now }
+    requires space { EndsInSpace (take at text.now) }
     ensures read { IfOk result (λ read. ReadsName text.now at read.1 role read.0) }
-    ensures fault { IfErr result (λ fault. StandsIn text.now fault) }
+    ensures due { (nets : ℕ) → DueAt nets text.now at (BehindRole role) → IfOk result (λ read. DueAt nets text.now read.1 PadNet) }
+    ensures space { IfOk result (λ read. EndsInSpace (take read.1 text.now)) }
+    ensures fault { (nets : ℕ) → DueAt nets text.now at (BehindRole role) → IfErr result (λ fault. IsFirst text.now fault) }
 {
     match role {
         Role::Input => {
@@ -169,9 +175,12 @@ fn read_pad_name(text: &[u8], at: usize, role: Role) -> Result<(PadName, usize),
 
 /// The nets of a pass device's line.
 fn read_pass(text: &[u8], at: usize, nets: u32) -> Result<(Device, usize), TextFault>
-    requires { at ≤ length text.now }
+    requires within { at ≤ length text.now }
+    requires due { DueAt nets text.now at BehindPass }
+    requires space { EndsInSpace (take at text.now) }
     ensures read { IfOk result (λ read. ReadsDevice text.now at read.1 kind.Pass nets read.0) }
-    ensures fault { IfErr result (λ fault. StandsIn text.now fault) }
+    ensures due { IfOk result (λ read. DueAt nets text.now read.1 (LinesDue false)) }
+    ensures fault { IfErr result (λ fault. IsFirst text.now fault) }
 {
     let (gate, at) = read_net_before(text, at, nets, b" ")?;
     let (a, at) = read_net_before(text, at, nets, b" ")?;
@@ -189,7 +198,8 @@ fn read_net_before(
     requires { at ≤ length text.now }
     ensures reads { IfOk result (λ read. Reads text.now at read.1 (decimal read.0.0 ++ word.now)) }
     ensures below { IfOk result (λ read. read.0.0 < nets) }
-    ensures fault { IfErr result (λ fault. StandsIn text.now fault) }
+    ensures number { IfOk result (λ read. number_at nets N2 word.now at text.now ≡ Ok (read.0.0, read.1)) }
+    ensures fault { IfErr result (λ fault. number_at nets N2 word.now at text.now ≡ Err fault) }
 {
     let (number, next) = number_before(text, at, nets, NetCode::N2, word)?;
     Ok((Net(number), next))
@@ -198,7 +208,7 @@ fn read_net_before(
 /// The number of nets, and the place behind the first two lines.
 fn read_head(text: &[u8]) -> Result<(u32, usize), TextFault>
     ensures read { IfOk result (λ read. ReadTo text.now read.0 [] [] read.1) }
-    ensures fault { IfErr result (λ fault. StandsIn text.now fault) }
+    ensures fault { IfErr result (λ fault. IsFirst text.now fault) }
 {
     let at = behind_word(text, 0, b"rxnet 1\nnets ")?;
     let (nets, next) = number_before(text, at, MOST_NETS + 1, NetCode::N5, b"\n")?;
@@ -208,7 +218,7 @@ fn read_head(text: &[u8]) -> Result<(u32, usize), TextFault>
 /// Reads the parts of a network.
 fn read_parts(alloc: Global, text: &[u8]) -> Result<Parts, Stop>
     ensures read { IfOk result (λ parts. IsRead text.now parts.nets parts.pads.items parts.devices.items) }
-    ensures fault { IfErr result (λ stop. StopsIn text.now stop) }
+    ensures fault { IfErr result (λ stop. StopsFirst text.now stop) }
 {
     let (nets, mut at) = read_head(text)?;
     let mut parts = Parts {
@@ -226,14 +236,15 @@ fn read_parts(alloc: Global, text: &[u8]) -> Result<Parts, Stop>
 ///
 /// # Errors
 ///
-/// `Fault` where the text is no network's, with the first fault: the first of N1, N2, N5 and N6 in the text, else N3 at the
-/// first line of a pad that repeats the name or the net of an earlier one, else N4 at the line `end`. `NoMemory` where an
-/// allocation was refused.
+/// `Fault` where the text is no network's, with its one refusal: the first of N1, N2, N5 and N6 in the text, else N3 at the
+/// first line of a pad that repeats the name or the net of an earlier one, else N4 at the line `end`. A number is as large as
+/// the longest numeral at its place says, so N2 and N5 come before an N1 behind its first byte. A network's text never gets
+/// a `Fault`. `NoMemory` where an allocation was refused.
 pub fn read_net(alloc: Global, text: &[u8]) -> Result<Network, ReadNetFault>
     requires { length text.now < 2 ^ 32 - 1 }
     ensures network { IfOk result (λ network. IsNetworkText text.now network) }
     ensures named { IfOk result (λ network. All IsNamed network.pads) }
-    ensures fault { IfErr result (λ fault. HasCircuitFault text.now fault) }
+    ensures fault { IfErr result (λ fault. IsReadFault text.now fault) }
 {
     faultless_is_network();
     let parts = match read_parts(alloc, text) {

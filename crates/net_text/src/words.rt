@@ -1,7 +1,6 @@
 // Words that are due at a place in a text.
 
-ghost use Rattle.std.specs.Prelude.{◌≡◌, ◌≤◌, ◌+◌, length, drop, find, IfErr};
-ghost use Rattle.net_text.specs.Steps.{StandsIn};
+ghost use Rattle.std.specs.Prelude.{◌≡◌, ◌≤◌, ◌+◌, length, drop, find};
 ghost use Rattle.net_text.specs.Reading.{agreeing, longest, begins_line, word_at, line_at};
 ghost use Rattle.net_text.specs.declared.net_fault.NetCode.TheVariants.{N1};
 
@@ -43,8 +42,7 @@ fn agreeing(text: &[u8], at: usize, word: &[u8]) -> usize
 /// The place behind the word, which is due here.
 pub fn behind_word(text: &[u8], at: usize, word: &[u8]) -> Result<usize, TextFault>
     requires { at ≤ length text.now }
-    ensures is { result ≡ word_at word.now at (drop at text.now) }
-    ensures fault { IfErr result (λ fault. StandsIn text.now fault) }
+    ensures { result ≡ word_at word.now at (drop at text.now) }
 {
     let count = agreeing(text, at, word);
     if count < word.len() {
@@ -56,8 +54,7 @@ pub fn behind_word(text: &[u8], at: usize, word: &[u8]) -> Result<usize, TextFau
 /// Which of these kinds the line has that is due here, and the place behind its word.
 pub fn line_kind(text: &[u8], at: usize, kinds: &[LineKind]) -> Result<(LineKind, usize), TextFault>
     requires { at ≤ length text.now }
-    ensures is { result ≡ line_at kinds.now at (drop at text.now) }
-    ensures fault { IfErr result (λ fault. StandsIn text.now fault) }
+    ensures { result ≡ line_at kinds.now at (drop at text.now) }
 {
     match first_kind(text, at, kinds) {
         Some(kind) => Ok((kind, at + kind.word().len())),

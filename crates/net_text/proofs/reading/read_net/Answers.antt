@@ -11,9 +11,11 @@ fault_of-requires-clause-few_pads c at is =
 
 pub returns-in-Err-clause-fault : goal.returns-in-Err-clause-fault
 returns-in-Err-clause-fault c =
-    inr (
-      _,
-      writes c.args.text.now _ _ _ c.in-Ok.ensures.read,
-      circuit_fault c.args.text.now _ _ _ c.in-Ok.ensures.read c.in-Err.bad _ c.fault_of.result c.in-Err.ensures.fault
-          (omega (arith, c.len.ensures, c.len-2.ensures, c.in-Ok.parts.pads.ok.0, c.in-Ok.parts.devices.ok.0)) c.fault_of.ensures,
-    )
+    inr (record {
+      clear = c.in-Ok.ensures.read.clear;
+      circuit = _;
+      writes = writes c.args.text.now _ _ _ c.in-Ok.ensures.read;
+      fault =
+          circuit_fault c.args.text.now _ _ _ c.in-Ok.ensures.read c.in-Err.bad _ c.fault_of.result c.in-Err.ensures.fault
+          (omega (arith, c.len.ensures, c.len-2.ensures, c.in-Ok.parts.pads.ok.0, c.in-Ok.parts.devices.ok.0)) c.fault_of.ensures;
+    })
