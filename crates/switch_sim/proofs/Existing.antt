@@ -17,38 +17,20 @@ use Rattle.switch_net.specs.declared.network.Level.{Level}
 use Rattle.switch_net.specs.declared.network.Level.TheVariants.{High, Unknown}
 use Rattle.switch_sim.specs.declared.marks.Marks.{Marks}
 use Rattle.switch_sim.specs.Marking.{loaded, own_marks, no_marks, marks_at, fixed_at, level_at, AreMarked}
-use Rattle.switch_sim.specs.Sweeping.{led, spread, swept, IsAtRest, all_unmarked}
+use Rattle.switch_sim.specs.Spreading.{led, spread, TakesNothing, IsAtRest, AreJust, all_unmarked}
 use Rattle.switch_sim.specs.Updating.{first_level, next_level}
 use Rattle.switch_sim.proofs.Gains.{led_progress}
 use Rattle.switch_sim.proofs.Iterates.{starts, driven_after, updates_by}
-use Rattle.switch_sim.proofs.Marked.{led_size, IsSound, IsOwned, sound_first, owned_first, sweep_sound, sweep_owned, all_marked}
+use Rattle.switch_sim.proofs.Marked.{led_size, just_first, just_spread, all_marked}
 use Rattle.switch_sim.proofs.Pulled.{fixed_below}
 
--- ---- a sweep brings new marks, or all is at rest
+-- ---- a look at a device brings new marks, or it is at rest
 
 module _ (nets : ℕ) (fixed : List (Option Bool)) (levels : List Level) where
-  -- what stands in the place of the marks: the same ones, or some that lack fewer
-  pub data Moved (rest : Type 0) (old new : List Marks) : Type 0 where
-    still : rest → new ≡ old → Moved rest old new
-    fewer : all_unmarked new < all_unmarked old → Moved rest old new
-
-  swept_size : (ds : List Device) (marks : List Marks) → length (swept fixed levels ds marks) ≡ length marks
-  swept_size [] marks = refl
-  swept_size (Load net ∷ ds) marks = swept_size ds (led fixed net.0 loaded High marks) ∙ led_size fixed net.0 loaded High marks
-  swept_size (Pass gate a b ∷ ds) marks =
-      let g = level_at levels gate.0 in
-      let first = led fixed a.0 (marks_at marks b.0) g marks in
-      swept_size ds (led fixed b.0 (marks_at first a.0) g first) ∙ led_size fixed b.0 (marks_at first a.0) g first
-      ∙ led_size fixed a.0 (marks_at marks b.0) g marks
-
   one_spread : (d : Device) → NamesBelow nets d → (marks : List Marks) → length marks ≡ nets
-      → Moved (IsAtRest fixed levels marks d) marks (spread fixed levels d marks)
-  one_spread (Load net) below marks size = by (led_progress fixed net.0 loaded High marks (subst (λ n. net.0 < n) (sym size) below))
-    where
-      by : (led fixed net.0 loaded High marks ≡ marks) ⊎ (all_unmarked (led fixed net.0 loaded High marks) < all_unmarked marks)
-          → Moved (IsAtRest fixed levels marks (Load net)) marks (led fixed net.0 loaded High marks)
-      by (inl e) = still e e
-      by (inr l) = fewer l
+      → IsAtRest fixed levels marks d ⊎ (all_unmarked (spread fixed levels d marks) < all_unmarked marks)
+  one_spread (Load net) below marks size =
+      elim (led_progress fixed net.0 loaded High marks (subst (λ n. net.0 < n) (sym size) below)) [ inl h ↦ inl h.0 | inr l ↦ inr l ]
   one_spread (Pass gate a b) below marks size =
       both (level_at levels gate.0) (led fixed a.0 (marks_at marks b.0) (level_at levels gate.0) marks)
       (led_progress fixed a.0 (marks_at marks b.0) (level_at levels gate.0) marks (subst (λ n. a.0 < n) (sym size) below.1))
@@ -56,38 +38,55 @@ module _ (nets : ℕ) (fixed : List (Option Bool)) (levels : List Level) where
       (subst (λ n. b.0 < n) (sym (same ∙ size)) below.2))
       (led_size fixed a.0 (marks_at marks b.0) (level_at levels gate.0) marks)
     where
-      both : (g : Level) (first : List Marks) → (first ≡ marks) ⊎ (all_unmarked first < all_unmarked marks)
+      both : (g : Level) (first : List Marks)
+          → (TakesNothing fixed marks a.0 (marks_at marks b.0) g × (first ≡ marks)) ⊎ (all_unmarked first < all_unmarked marks)
           → ((first : List Marks) → length first ≡ length marks
-          → (led fixed b.0 (marks_at first a.0) g first ≡ first) ⊎ (all_unmarked (led fixed b.0 (marks_at first a.0) g first) < all_unmarked first))
+          → (TakesNothing fixed first b.0 (marks_at first a.0) g × (led fixed b.0 (marks_at first a.0) g first ≡ first))
+          ⊎ (all_unmarked (led fixed b.0 (marks_at first a.0) g first) < all_unmarked first))
           → length first ≡ length marks
-          → Moved ((first ≡ marks) × (led fixed b.0 (marks_at marks a.0) g marks ≡ marks)) marks (led fixed b.0 (marks_at first a.0) g first)
+          → (TakesNothing fixed marks a.0 (marks_at marks b.0) g × TakesNothing fixed marks b.0 (marks_at marks a.0) g)
+          ⊎ (all_unmarked (led fixed b.0 (marks_at first a.0) g first) < all_unmarked marks)
       both g first one other same = cases one (other first same)
         where
-          cases : (first ≡ marks) ⊎ (all_unmarked first < all_unmarked marks)
-              → (led fixed b.0 (marks_at first a.0) g first ≡ first) ⊎ (all_unmarked (led fixed b.0 (marks_at first a.0) g first) < all_unmarked first)
-              → Moved ((first ≡ marks) × (led fixed b.0 (marks_at marks a.0) g marks ≡ marks)) marks (led fixed b.0 (marks_at first a.0) g first)
-          cases (inl e) (inl h) = still (e, subst (λ m. led fixed b.0 (marks_at m a.0) g m ≡ m) e h) (h ∙ e)
-          cases (inl e) (inr l) = let equal = ap all_unmarked e in fewer (omega arith)
-          cases (inr k) (inl h) = let equal = ap all_unmarked h in fewer (omega arith)
-          cases (inr k) (inr l) = fewer (omega arith)
+          cases : (TakesNothing fixed marks a.0 (marks_at marks b.0) g × (first ≡ marks)) ⊎ (all_unmarked first < all_unmarked marks)
+              → (TakesNothing fixed first b.0 (marks_at first a.0) g × (led fixed b.0 (marks_at first a.0) g first ≡ first))
+              ⊎ (all_unmarked (led fixed b.0 (marks_at first a.0) g first) < all_unmarked first)
+              → (TakesNothing fixed marks a.0 (marks_at marks b.0) g × TakesNothing fixed marks b.0 (marks_at marks a.0) g)
+              ⊎ (all_unmarked (led fixed b.0 (marks_at first a.0) g first) < all_unmarked marks)
+          cases (inl e) (inl h) = inl (e.0, subst (λ m. TakesNothing fixed m b.0 (marks_at m a.0) g) e.1 h.0)
+          cases (inl e) (inr l) = let equal = ap all_unmarked e.1 in inr (omega arith)
+          cases (inr k) (inl h) = let equal = ap all_unmarked h.1 in inr (omega arith)
+          cases (inr k) (inr l) = inr (omega arith)
 
-  spread_size : (d : Device) (marks : List Marks) → length (spread fixed levels d marks) ≡ length marks
-  spread_size d marks = swept_size (d ∷ []) marks
+  -- a device of the list brings new marks
+  pub record Moves (ds : List Device) (marks : List Marks) : Type 0 where
+    pub at : ℕ
+    pub device : Device
+    pub within : at < length ds
+    pub is : get_or ds at device ≡ device
+    pub below : NamesBelow nets device
+    pub fewer : all_unmarked (spread fixed levels device marks) < all_unmarked marks
 
-  one_sweep : (ds : List Device) → AllByRecursion (NamesBelow nets) ds → (marks : List Marks) → length marks ≡ nets
-      → Moved (AllByRecursion (IsAtRest fixed levels marks) ds) marks (swept fixed levels ds marks)
-  one_sweep [] below marks size = still tt refl
-  one_sweep (d ∷ ds) below marks size =
-      by (spread fixed levels d marks) (one_spread d below.0 marks size)
-      (one_sweep ds below.1 (spread fixed levels d marks) (spread_size d marks ∙ size))
-    where
-      by : (new : List Marks) → Moved (IsAtRest fixed levels marks d) marks new
-          → Moved (AllByRecursion (IsAtRest fixed levels new) ds) new (swept fixed levels ds new)
-          → Moved (IsAtRest fixed levels marks d × AllByRecursion (IsAtRest fixed levels marks) ds) marks (swept fixed levels ds new)
-      by new (still r e) (still all h) = still (r, subst (λ m. AllByRecursion (IsAtRest fixed levels m) ds) e all) (h ∙ e)
-      by new (still r e) (fewer l) = let equal = ap all_unmarked e in fewer (omega arith)
-      by new (fewer k) (still all h) = let equal = ap all_unmarked h in fewer (omega arith)
-      by new (fewer k) (fewer l) = fewer (omega arith)
+  all_rest : (ds : List Device) → AllByRecursion (NamesBelow nets) ds → (marks : List Marks) → length marks ≡ nets
+      → AllByRecursion (IsAtRest fixed levels marks) ds ⊎ Moves ds marks
+  all_rest [] below marks size = inl tt
+  all_rest (d ∷ ds) below marks size =
+      elim (one_spread d below.0 marks size) [
+        | inr l ↦ inr (record { at = zero; device = d; within = omega arith; is = refl; below = below.0; fewer = l })
+        | inl r ↦
+            elim (all_rest ds below.1 marks size) [
+              | inl all ↦ inl (r, all)
+              | inr m ↦
+                  inr (record {
+                    at = suc m.at;
+                    device = m.device;
+                    within = let lt = m.within in omega arith;
+                    is = m.is;
+                    below = m.below;
+                    fewer = m.fewer;
+                  })
+            ]
+      ]
 
 -- ---- marks, updates, settlings
 
@@ -106,38 +105,35 @@ module _ (circuit : Circuit) (valid : IsNetwork circuit) where
     abbrev Found : Type 0
     Found = (new : List Marks) × AreMarked circuit.nets circuit.devices (fixed_at fixed) (level_at charges) (level_at levels) new
 
-    abbrev sound : List Marks → Type 0
-    sound marks = IsSound circuit.nets circuit.devices fixed charges levels marks
+    abbrev Just : List Marks → Type 0
+    Just marks = AreJust circuit.nets circuit.devices fixed charges levels marks
 
-    abbrev owned : List Marks → Type 0
-    owned marks = IsOwned circuit.nets circuit.devices fixed charges levels marks
+    moved : (marks : List Marks) → Just marks → (m : Moves circuit.nets fixed levels circuit.devices marks) → Just (spread fixed levels m.device marks)
+    moved marks just m =
+        subst (λ d. Just (spread fixed levels d marks)) m.is
+        (just_spread circuit.nets circuit.devices fixed charges levels m.at m.device m.within (subst (NamesBelow circuit.nets) (sym m.is) m.below) marks just)
 
-    abbrev sweep : List Marks → List Marks
-    sweep marks = swept fixed levels circuit.devices marks
+    rest_or : (marks : List Marks) → Just marks
+        → AllByRecursion (IsAtRest fixed levels marks) circuit.devices ⊎ Moves circuit.nets fixed levels circuit.devices marks
+        → ((m : Moves circuit.nets fixed levels circuit.devices marks) → Found) → Found
+    rest_or marks just (inl rest) more = (marks, all_marked circuit.nets circuit.devices fixed charges levels marks just rest)
+    rest_or marks just (inr m) more = more m
 
-    rest_or : (marks : List Marks) → length marks ≡ circuit.nets → sound marks → owned marks
-        → Moved circuit.nets fixed levels (AllByRecursion (IsAtRest fixed levels marks) circuit.devices) marks (sweep marks)
-        → (all_unmarked (sweep marks) < all_unmarked marks → Found) → Found
-    rest_or marks size s o (still rest e) more = (marks, all_marked circuit.nets circuit.devices fixed charges levels marks size o s rest)
-    rest_or marks size s o (fewer l) more = more l
-
-    resting : (n : ℕ) (marks : List Marks) → length marks ≡ circuit.nets → sound marks → owned marks → all_unmarked marks ≤ n → Found
-    resting zero marks size s o few =
-        rest_or marks size s o (one_sweep circuit.nets fixed levels circuit.devices below marks size) (λ l. absurd (omega arith))
-    resting (suc n) marks size s o few =
-        rest_or marks size s o (one_sweep circuit.nets fixed levels circuit.devices below marks size) (λ l.
-        resting n (sweep marks) (swept_size circuit.nets fixed levels circuit.devices marks ∙ size)
-        (sweep_sound circuit.nets circuit.devices fixed charges levels below marks size s)
-        (sweep_owned circuit.nets circuit.devices fixed charges levels below marks size o) (omega arith))
+    resting : (n : ℕ) (marks : List Marks) → Just marks → all_unmarked marks ≤ n → Found
+    resting zero marks just few =
+        rest_or marks just (all_rest circuit.nets fixed levels circuit.devices below marks just.size) (λ m. let l = m.fewer in absurd (omega arith))
+    resting (suc n) marks just few =
+        rest_or marks just (all_rest circuit.nets fixed levels circuit.devices below marks just.size) (λ m.
+        let l = m.fewer in resting n (spread fixed levels m.device marks) (moved marks just m) (omega arith))
 
     marked : Found
     marked =
         let own : List Marks = each (λ net. own_marks (fixed_at fixed net) (level_at charges net)) in
         let first : (net : ℕ) → net < circuit.nets → marks_at own net ≡ own_marks (fixed_at fixed net) (level_at charges net) =
         λ net lt. each_at (λ n. own_marks (fixed_at fixed n) (level_at charges n)) no_marks net lt in
-        resting (all_unmarked own) own (length-map-range_with_len (λ n. own_marks (fixed_at fixed n) (level_at charges n)) 0 circuit.nets)
-        (sound_first circuit.nets circuit.devices fixed charges levels own first) (owned_first circuit.nets circuit.devices fixed charges levels own first)
-        (omega arith)
+        resting (all_unmarked own) own
+        (just_first circuit.nets circuit.devices fixed charges levels own
+        (length-map-range_with_len (λ n. own_marks (fixed_at fixed n) (level_at charges n)) 0 circuit.nets) first) (omega arith)
 
   module _ (drives : List Bool) (charges : List Level) where
     abbrev f : ℕ → Option Bool

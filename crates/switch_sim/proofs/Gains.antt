@@ -1,5 +1,5 @@
 -- A net that takes marks bears them all already, or lacks fewer.
-use Rattle.std.proofs.Common.{◌≡◌, ℕ, ◌<◌, ◌≤◌, ◌||◌, ◌⊎◌, inl, inr, Bool, true, false, cond, List, Option, length, refl, arith}
+use Rattle.std.proofs.Common.{◌≡◌, ℕ, ◌<◌, ◌≤◌, ◌||◌, ◌⊎◌, inl, inr, Bool, true, false, cond, List, Option, Some, None, length, refl, arith}
 use Rattle.std.proofs.Math.ListN.{set}
 use Rattle.std.proofs.lemmas.List.{set-get_or}
 use Rattle.std.proofs.lemmas.List.Sums.{sum_by-set}
@@ -7,7 +7,7 @@ use Rattle.switch_net.specs.declared.network.Level.{Level}
 use Rattle.switch_sim.specs.declared.marks.Marks.{Marks}
 use Rattle.switch_sim.specs.Marking.{joined, marks_at, no_marks, fixed_at}
 use Rattle.std.specs.Option.{is_some}
-use Rattle.switch_sim.specs.Sweeping.{missing, unmarked, all_unmarked, led}
+use Rattle.switch_sim.specs.Spreading.{missing, unmarked, all_unmarked, led, TakesNothing}
 
 at_most : (x y : Bool) → missing (x || y) ≤ missing x
 at_most true y = omega arith
@@ -70,16 +70,17 @@ pub set_same : (marks : List Marks) (net : ℕ) (o : Marks) (g : Level) → join
     → set marks net (joined (marks_at marks net) o g) ≡ marks
 set_same marks net o g e = rw e (set-get_or marks net no_marks)
 
--- a net that takes marks leaves them as they are, or lacks fewer
+-- a net takes nothing, or lacks fewer marks then
 pub led_progress : (fixed : List (Option Bool)) (net : ℕ) (o : Marks) (g : Level) (marks : List Marks) → net < length marks
-    → (led fixed net o g marks ≡ marks) ⊎ (all_unmarked (led fixed net o g marks) < all_unmarked marks)
-led_progress fixed net o g marks lt = by (is_some (fixed_at fixed net)) (joined_rest (marks_at marks net) o g)
+    → (TakesNothing fixed marks net o g × (led fixed net o g marks ≡ marks)) ⊎ (all_unmarked (led fixed net o g marks) < all_unmarked marks)
+led_progress fixed net o g marks lt = by (fixed_at fixed net) (joined_rest (marks_at marks net) o g)
   where
-    by : (test : Bool) → Rest (marks_at marks net) (joined (marks_at marks net) o g)
-        → (cond test marks (set marks net (joined (marks_at marks net) o g)) ≡ marks)
-        ⊎ (all_unmarked (cond test marks (set marks net (joined (marks_at marks net) o g))) < all_unmarked marks)
-    by true h = inl refl
-    by false (same e) = inl (set_same marks net o g e)
-    by false (fewer l) =
+    by : (pad : Option Bool) → Rest (marks_at marks net) (joined (marks_at marks net) o g)
+        → ((pad ≡ None → joined (marks_at marks net) o g ≡ marks_at marks net)
+        × (cond (is_some pad) marks (set marks net (joined (marks_at marks net) o g)) ≡ marks))
+        ⊎ (all_unmarked (cond (is_some pad) marks (set marks net (joined (marks_at marks net) o g))) < all_unmarked marks)
+    by (Some level) h = inl (λ e. absurd (cc), refl)
+    by None (same e) = inl (λ _. e, set_same marks net o g e)
+    by None (fewer l) =
         let total = sum_by-set unmarked marks net (joined (marks_at marks net) o g) no_marks lt in
         inr (omega arith)

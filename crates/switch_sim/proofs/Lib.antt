@@ -1,6 +1,8 @@
 pub mod Gains
 pub mod Marked
-pub mod Sweeps
+pub mod Spreads
+pub mod Queues
+pub mod Chains
 pub mod Fixed
 pub mod Pulled
 pub mod Updated
@@ -12,3 +14,5 @@ pub mod TextLines
 pub mod Reading
 pub mod Runs
 pub mod Faultless
+pub mod OneTrace
+pub mod OneRun

@@ -1,5 +1,7 @@
 pub mod Marking
-pub mod Sweeping
+pub mod Waiting
+pub mod Incidence
+pub mod Spreading
 pub mod Updating
 pub mod Simulating
 pub mod TraceTexts

@@ -10,7 +10,7 @@ pub record Simulation : Type 0 where
   pub circuit : Circuit
   pub levels : List Level
 
--- there is an entry for each net, and a drive for each pad
+-- the parts are those of the network, and there is a drive for each pad
 pub record IsSimulation (circuit : Circuit) (nets : Nets) (drive : List Bool) : Type 0 where
-  pub sized : IsSized circuit.nets nets
+  pub sized : IsSized circuit nets
   pub driven : length drive ≡ length circuit.pads

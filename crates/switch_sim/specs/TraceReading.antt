@@ -1,7 +1,7 @@
 -- Steps of reading a trace.
 use Rattle.std.specs.Prelude.{◌≡◌, ℕ, ◌+◌, ◌<◌, ◌==◌, not, Bool, true, List, ◌∷◌, ◌++◌, map, take, drop, length, All, Option, Some, None, Result, Ok, Err, if◌then◌else◌, ⊤}
-use Rattle.rx_text.specs.TextPlace.{is_line_feed, place_behind}
-use Rattle.switch_sim.specs.TraceTexts.{is_bit, is_chip, line_fault, chip_word, lines_of, first_fault, trace_fault}
+use Rattle.rx_text.specs.TextPlace.{is_line_feed}
+use Rattle.switch_sim.specs.TraceTexts.{is_bit, is_chip, line_fault, chip_word, lines_of, first_fault, TraceRefusal}
 use Rattle.switch_sim.specs.declared.trace.Line.{Line}
 use Rattle.switch_sim.specs.declared.trace.Line.TheVariants.{Chip, Vector}
 use Rattle.switch_sim.specs.declared.trace_code.TraceSpot.{TraceSpot}
@@ -15,10 +15,10 @@ not_line_feed byte = not (is_line_feed byte)
 abbrev pub bits_in : List ℕ → List Bool
 bits_in line = map (λ byte. byte == 49) line
 
--- The text is refused with its first fault and the place of that; memory may be refused to any text.
+-- The fault is that of the text, or want of memory.
 abbrev pub IsRefused : List ℕ → ReadTraceFault → Type 0
 IsRefused text NoMemory = ⊤
-IsRefused text (Fault fault) = (spot : TraceSpot) × (trace_fault text ≡ Some spot) × (fault.code ≡ spot.code) × (fault.place ≡ place_behind (take spot.at text))
+IsRefused text (Fault fault) = TraceRefusal text fault.code fault.place
 
 -- a line of a vector stands at the front of the rest, and the faults are those of what is behind it
 pub record IsVectorLine (rest : List ℕ) (at count width : ℕ) : Type 0 where

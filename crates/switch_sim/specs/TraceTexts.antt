@@ -1,10 +1,12 @@
 -- The text of a trace, and the first fault of a text that does not begin with one.
-use Rattle.std.specs.Prelude.{◌≡◌, ◌≢◌, ℕ, ◌+◌, ◌≤◌, ◌==◌, ◌||◌, nat_le, nat_lt, Bool, true, false, if◌then◌else◌, List, [], ◌∷◌, ◌++◌, map, length, All, Option, Some, None}
+use Rattle.std.specs.Prelude.{◌≡◌, ◌≢◌, ℕ, ◌+◌, ◌≤◌, ◌==◌, ◌||◌, nat_le, nat_lt, Bool, true, false, if◌then◌else◌, List, [], ◌∷◌, ◌++◌, map, take, length, All, Option, Some, None}
 use Rattle.std.specs.List.{flat_map, prefix_len}
 use Rattle.std.specs.Option.{option_or}
 use Rattle.std.specs.Str.{bytes_eq}
-use Rattle.rx_text.specs.TextPlace.{is_line_feed}
-use Rattle.switch_sim.specs.declared.trace_code.TraceCode.TheVariants.{BadBit, TooManyVectors, NoChip}
+use Rattle.rx_text.specs.TextPlace.{is_line_feed, place_behind}
+use Rattle.rx_text.specs.declared.place.Place.{Place}
+use Rattle.switch_sim.specs.declared.trace_code.TraceCode.{TraceCode}
+use Rattle.switch_sim.specs.declared.trace_code.TraceCode.TheVariants.{V1, V3, V4}
 use Rattle.switch_sim.specs.declared.trace_code.TraceSpot.{TraceSpot}
 
 -- the byte of a bit
@@ -56,12 +58,12 @@ is_chip line = bytes_eq line chip_word
 -- the first byte of the line that is no bit, or the end of an empty line
 abbrev pub bad_bit : ℕ → List ℕ → Option TraceSpot
 bad_bit at line =
-    if nat_lt (prefix_len is_bit line) (length line) || is_empty line then Some (record { code = BadBit; at = at + prefix_len is_bit line })
+    if nat_lt (prefix_len is_bit line) (length line) || is_empty line then Some (record { code = V1; at = at + prefix_len is_bit line })
     else None
 
 -- the line, where 10,000 stand before it
 abbrev pub too_many : ℕ → ℕ → Option TraceSpot
-too_many count at = if nat_le 10000 count then Some (record { code = TooManyVectors; at = at }) else None
+too_many count at = if nat_le 10000 count then Some (record { code = V3; at = at }) else None
 
 -- the one that stands first in the text, at one place the one
 abbrev pub earlier : Option TraceSpot → Option TraceSpot → Option TraceSpot
@@ -75,7 +77,7 @@ line_fault count at line = earlier (bad_bit at line) (too_many count at)
 
 -- no line `chip` that a line feed ends stands before this end
 abbrev pub no_chip : ℕ → Option TraceSpot
-no_chip end = Some (record { code = NoChip; at = end })
+no_chip end = Some (record { code = V4; at = end })
 
 -- The first fault of the lines, where so many stand before them and the first begins at this place.
 abbrev pub first_fault : ℕ → ℕ → List (List ℕ) → Option TraceSpot
@@ -88,3 +90,7 @@ first_fault count at (line ∷ next ∷ more) =
 -- the first fault of a text that does not begin with a trace
 abbrev pub trace_fault : List ℕ → Option TraceSpot
 trace_fault text = first_fault 0 0 (lines_of text)
+
+-- The text is refused with this code at this place, those of its first fault.
+abbrev pub TraceRefusal : List ℕ → TraceCode → Place → Type 0
+TraceRefusal text code place = (spot : TraceSpot) × (trace_fault text ≡ Some spot) × (code ≡ spot.code) × (place ≡ place_behind (take spot.at text))

@@ -1,5 +1,6 @@
 -- What the nets of a simulation hold, and one update of their levels.
 use Rattle.std.specs.Prelude.{◌≡◌, ℕ, Bool, List, Option, Some, None, length}
+use Rattle.switch_net.specs.Circuit.{Circuit}
 use Rattle.switch_net.specs.Settling.{fixed_level}
 use Rattle.switch_net.specs.Ternary.{level_of}
 use Rattle.switch_net.specs.declared.network.Level.{Level}
@@ -7,14 +8,18 @@ use Rattle.switch_net.specs.declared.network.Level.TheVariants.{Unknown}
 use Rattle.switch_net.specs.declared.network.Pad.{Pad}
 use Rattle.switch_sim.specs.declared.marks.Marks.{Marks}
 use Rattle.switch_sim.specs.declared.settling.Nets.{Nets}
+use Rattle.switch_sim.specs.Incidence.{IsIncidence}
 use Rattle.switch_sim.specs.Marking.{fixed_at, marked_level}
 
--- there is one entry for each net
-pub record IsSized (count : ℕ) (nets : Nets) : Type 0 where
-  pub fixed : length nets.fixed.items ≡ count
-  pub charges : length nets.charges.items ≡ count
-  pub levels : length nets.levels.items ≡ count
-  pub marks : length nets.marks.items ≡ count
+-- there is one entry for each net, the devices are chained at their nets, and all nets can wait
+pub record IsSized (circuit : Circuit) (nets : Nets) : Type 0 where
+  pub fixed : length nets.fixed.items ≡ circuit.nets
+  pub charges : length nets.charges.items ≡ circuit.nets
+  pub levels : length nets.levels.items ≡ circuit.nets
+  pub marks : length nets.marks.items ≡ circuit.nets
+  pub chains : IsIncidence circuit.devices nets.incidence
+  pub last : length nets.incidence.last.items ≡ circuit.nets
+  pub waiting : nets.waiting.size ≡ circuit.nets
 
 -- the level of a net before the first update
 abbrev pub first_level : Option Bool → Level

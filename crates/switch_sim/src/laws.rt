@@ -1,9 +1,27 @@
 // What holds of the texts of traces.
 
-ghost use Rattle.switch_sim.specs.TraceLaws.{FaultlessIsTrace};
+ghost use Rattle.std.specs.Prelude.{◌≡◌, ◌⊎◌, ℕ, Bool, List};
+ghost use Rattle.rx_text.specs.declared.place.Place.{Place};
+ghost use Rattle.switch_net.specs.Circuit.{Circuit};
+ghost use Rattle.switch_net.specs.Validity.{IsNetwork};
+ghost use Rattle.switch_sim.specs.TraceLines.{TraceLines};
+ghost use Rattle.switch_sim.specs.TraceTexts.{IsTrace, TraceRefusal};
+ghost use Rattle.switch_sim.specs.TraceLaws.{BeginsWithTrace};
+ghost use Rattle.switch_sim.specs.declared.trace_code.TraceCode.{TraceCode};
 
-/// A text begins with a trace exactly where it has no fault: each text is read or refused, and none is both. It runs nothing:
-/// a caller has the law from its contract.
-pub fn faultless_is_trace()
-    ensures { FaultlessIsTrace }
+/// Every text begins with one trace or is refused with one code at one place, and never both. It runs nothing: a caller
+/// has the law from its contract.
+pub fn texts_are_traces_or_refused()
+    ensures either { (text : List ℕ) → BeginsWithTrace text ⊎ ((code : TraceCode) × (place : Place) × TraceRefusal text code place) }
+    ensures exclusive { (text : List ℕ) (code : TraceCode) (place : Place) → BeginsWithTrace text → TraceRefusal text code place → ⊥ }
+    ensures one_trace { (text : List ℕ) (some others : List (List Bool)) (place elsewhere : ℕ)
+        → IsTrace text some place → IsTrace text others elsewhere → (some ≡ others) × (place ≡ elsewhere) }
+    ensures one_refusal { (text : List ℕ) (code other : TraceCode) (place elsewhere : Place)
+        → TraceRefusal text code place → TraceRefusal text other elsewhere → (code ≡ other) × (place ≡ elsewhere) }
+{}
+
+/// A run through these vectors has one output. It runs nothing: a caller has the law from its contract.
+pub fn traces_have_one_output()
+    ensures { (circuit : Circuit) → IsNetwork circuit → (vectors : List (List Bool)) (some others : List ℕ)
+        → TraceLines circuit vectors some → TraceLines circuit vectors others → some ≡ others }
 {}

@@ -2,6 +2,7 @@
 #![tactic(auto)]
 
 mod drive;
+mod incidence;
 mod laws;
 mod marking;
 mod marks;
@@ -11,8 +12,9 @@ mod settling;
 mod sim;
 mod trace;
 mod trace_code;
+mod waiting;
 
-pub use laws::faultless_is_trace;
+pub use laws::{texts_are_traces_or_refused, traces_have_one_output};
 pub use no_memory::NoMemory;
 pub use run::{RunFault, run_trace};
 pub use sim::Sim;

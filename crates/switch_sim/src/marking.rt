@@ -1,71 +1,128 @@
-// The marks of all nets, by sweeps over the devices.
+// The marks of all nets, which spread from the nets that wait.
 
-ghost use Rattle.std.specs.Prelude.{◌≡◌, ℕ, ◌<◌, true, false, length, All};
+ghost use Rattle.std.specs.Prelude.{◌≡◌, ◌⊎◌, ℕ, ◌<◌, length, All};
 ghost use Rattle.switch_net.specs.ClockedLogic.{NamesBelow};
+ghost use Rattle.switch_sim.specs.Incidence.{EndsAt, IsIncidence};
 ghost use Rattle.switch_sim.specs.Marking.{own_marks, fixed_at, level_at, marks_at, AreMarked};
-ghost use Rattle.switch_sim.specs.Sweeping.{led, spread, swept, IsAtRest, all_unmarked};
+ghost use Rattle.switch_sim.specs.Spreading.{led, spread, TakesNothing, RestsOrWaits, Spreads, StayJust};
+ghost use Rattle.switch_sim.specs.Waiting.{Waits};
 
+use crate::incidence::Incidence;
 use crate::marks::Marks;
+use crate::waiting::Waiting;
 use switch_net::{Device, Level, Net};
 
-/// Gives the net, unless a pad fixes it, the marks of another that a device with this level at its gate carries, and answers
-/// whether one of them is new.
-fn lead(fixed: &[Option<bool>], net: Net, other: Marks, gate: Level, marks: &mut [Marks]) -> bool
+/// Gives the net, unless a pad fixes it, the marks of another that a device with this level at its gate carries. Where one
+/// of them is new, the net waits.
+fn lead(
+    fixed: &[Option<bool>],
+    net: Net,
+    other: Marks,
+    gate: Level,
+    marks: &mut [Marks],
+    waiting: &mut Waiting,
+)
     requires within { net.0 < length marks.old }
     requires sized { length fixed.now ≡ length marks.old }
+    requires room { waiting.old.size ≡ length marks.old }
     ensures marks { marks.new ≡ led fixed.now net.0 other gate marks.old }
     ensures size { length marks.new ≡ length marks.old }
-    ensures rest { result ≡ false → marks.new ≡ marks.old }
-    ensures fewer { result ≡ true → all_unmarked marks.new < all_unmarked marks.old }
+    ensures room { waiting.new.size ≡ waiting.old.size }
+    ensures spreads { Spreads marks.old waiting.old.nets marks.new waiting.new.nets }
+    ensures rest { TakesNothing fixed.now marks.new net.0 other gate ⊎ Waits waiting.new.nets net.0 }
 {
     if fixed[net.0 as usize].is_some() {
-        return false;
+        return;
     }
     let before = marks[net.0 as usize];
     let after = before.joined(other, gate);
     marks[net.0 as usize] = after;
-    after.differs(before)
+    if after.differs(before) {
+        waiting.add(net);
+    }
 }
 
-/// Looks at the device: its ends take marks of each other, or its net those of a load. Answers whether one of them is new.
-fn spread(device: Device, fixed: &[Option<bool>], levels: &[Level], marks: &mut [Marks]) -> bool
+/// Looks at the device: its ends take marks of each other, or its net those of a load. Those with a new mark wait.
+fn spread(
+    device: Device,
+    fixed: &[Option<bool>],
+    levels: &[Level],
+    marks: &mut [Marks],
+    waiting: &mut Waiting,
+)
     requires below { NamesBelow (length marks.old) device }
     requires fixed_sized { length fixed.now ≡ length marks.old }
     requires levels_sized { length levels.now ≡ length marks.old }
+    requires room { waiting.old.size ≡ length marks.old }
     ensures marks { marks.new ≡ spread fixed.now levels.now device marks.old }
     ensures size { length marks.new ≡ length marks.old }
-    ensures rest { result ≡ false → marks.new ≡ marks.old }
-    ensures at_rest { result ≡ false → IsAtRest fixed.now levels.now marks.new device }
-    ensures fewer { result ≡ true → all_unmarked marks.new < all_unmarked marks.old }
+    ensures room { waiting.new.size ≡ waiting.old.size }
+    ensures spreads { Spreads marks.old waiting.old.nets marks.new waiting.new.nets }
+    ensures rest { RestsOrWaits fixed.now levels.now marks.new waiting.new.nets device }
 {
     match device {
-        Device::Load { net } => lead(fixed, net, Marks::LOADED, Level::High, marks),
+        Device::Load { net } => lead(fixed, net, Marks::LOADED, Level::High, marks, waiting),
         Device::Pass { gate, a, b } => {
             let gate = levels[gate.0 as usize];
-            let from_b = marks[b.0 as usize];
-            let new_at_a = lead(fixed, a, from_b, gate, marks);
-            let from_a = marks[a.0 as usize];
-            let new_at_b = lead(fixed, b, from_a, gate, marks);
-            new_at_a || new_at_b
+            lead(fixed, a, marks[b.0 as usize], gate, marks, waiting);
+            lead(fixed, b, marks[a.0 as usize], gate, marks, waiting);
         }
     }
 }
 
-/// Looks once at each device, and answers whether a net got a new mark.
-fn sweep(devices: &[Device], fixed: &[Option<bool>], levels: &[Level], marks: &mut [Marks]) -> bool
+/// Looks once at each device.
+fn spread_all(
+    devices: &[Device],
+    fixed: &[Option<bool>],
+    levels: &[Level],
+    marks: &mut [Marks],
+    waiting: &mut Waiting,
+)
     requires below { All (NamesBelow (length marks.old)) devices.now }
     requires fixed_sized { length fixed.now ≡ length marks.old }
     requires levels_sized { length levels.now ≡ length marks.old }
-    ensures marks { marks.new ≡ swept fixed.now levels.now devices.now marks.old }
+    requires room { waiting.old.size ≡ length marks.old }
     ensures size { length marks.new ≡ length marks.old }
-    ensures at_rest { result ≡ false → All (IsAtRest fixed.now levels.now marks.new) devices.now }
-    ensures fewer { result ≡ true → all_unmarked marks.new < all_unmarked marks.old }
+    ensures room { waiting.new.size ≡ waiting.old.size }
+    ensures just { StayJust devices.now fixed.now levels.now marks.old marks.new }
+    ensures rest { All (RestsOrWaits fixed.now levels.now marks.new waiting.new.nets) devices.now }
 {
-    let mut changed = false;
     for device in devices {
-        changed |= spread(*device, fixed, levels, marks);
+        spread(*device, fixed, levels, marks, waiting);
     }
-    changed
+}
+
+/// Looks at the devices at the net, which was the only one that could keep them from rest.
+fn follow(
+    net: u32,
+    devices: &[Device],
+    incidence: &Incidence,
+    fixed: &[Option<bool>],
+    levels: &[Level],
+    marks: &mut [Marks],
+    waiting: &mut Waiting,
+)
+    requires within { net < length marks.old }
+    requires below { All (NamesBelow (length marks.old)) devices.now }
+    requires chains { IsIncidence devices.now incidence.now }
+    requires chains_sized { length incidence.now.last.items ≡ length marks.old }
+    requires fixed_sized { length fixed.now ≡ length marks.old }
+    requires levels_sized { length levels.now ≡ length marks.old }
+    requires room { waiting.old.size ≡ length marks.old }
+    requires rest { All (λ device. RestsOrWaits fixed.now levels.now marks.old waiting.old.nets device
+        ⊎ EndsAt device net) devices.now }
+    ensures size { length marks.new ≡ length marks.old }
+    ensures room { waiting.new.size ≡ waiting.old.size }
+    ensures spreads { Spreads marks.old waiting.old.nets marks.new waiting.new.nets }
+    ensures just { StayJust devices.now fixed.now levels.now marks.old marks.new }
+    ensures rest { All (RestsOrWaits fixed.now levels.now marks.new waiting.new.nets) devices.now }
+{
+    let mut behind = incidence.behind_last(net);
+    while behind > 0 {
+        let at = behind - 1;
+        spread(devices[at], fixed, levels, marks, waiting);
+        behind = incidence.behind_earlier(devices, at, net);
+    }
 }
 
 /// Gives each net its own marks alone.
@@ -81,26 +138,32 @@ fn begin(fixed: &[Option<bool>], charges: &[Level], marks: &mut [Marks])
     }
 }
 
-/// Gives the nets the marks that they are led to: devices are swept until no net gets a new mark.
+/// Gives the nets the marks that they are led to: after one look at each device, marks spread from the nets that wait over
+/// the devices at them, until none waits.
 pub(crate) fn mark_groups(
     devices: &[Device],
+    incidence: &Incidence,
     fixed: &[Option<bool>],
     charges: &[Level],
     levels: &[Level],
     marks: &mut [Marks],
+    waiting: &mut Waiting,
 )
     requires below { All (NamesBelow (length marks.old)) devices.now }
+    requires chains { IsIncidence devices.now incidence.now }
+    requires chains_sized { length incidence.now.last.items ≡ length marks.old }
     requires fixed_sized { length fixed.now ≡ length marks.old }
     requires charges_sized { length charges.now ≡ length marks.old }
     requires levels_sized { length levels.now ≡ length marks.old }
+    requires room { waiting.old.size ≡ length marks.old }
     ensures marks { AreMarked (length marks.old) devices.now (fixed_at fixed.now)
         (level_at charges.now) (level_at levels.now) marks.new }
     ensures size { length marks.new ≡ length marks.old }
+    ensures room { waiting.new.size ≡ waiting.old.size }
 {
     begin(fixed, charges, marks);
-    loop {
-        if !sweep(devices, fixed, levels, marks) {
-            return;
-        }
+    spread_all(devices, fixed, levels, marks, waiting);
+    while let Some(net) = waiting.pop() {
+        follow(net, devices, incidence, fixed, levels, marks, waiting);
     }
 }

@@ -67,8 +67,7 @@ pub fn run_trace<K: Sink>(
     ensures ok { OnOk result
         (GainsLines (K.held sink.old) (K.held sink.new) network.now trace.now) }
     ensures width { named_wrong result ≡ first_wrong network.now trace.now }
-    ensures unwritten { first_wrong network.now trace.now ≢ None
-        → K.held sink.new ≡ K.held sink.old }
+    ensures unwritten { first_wrong network.now trace.now ≢ None → sink.new ≡ sink.old }
     ensures front { OnErr result
         (GainsFront (K.held sink.old) (K.held sink.new) network.now trace.now) }
     ensures never_falls { K.faults sink.old ≤ K.faults sink.new }

@@ -4,64 +4,86 @@ ghost use Rattle.std.specs.Prelude.{◌≡◌, ℕ, Bool, List, ◌<◌, false, 
 ghost use Rattle.switch_net.specs.Settling.{pad_level, fixed_level};
 ghost use Rattle.switch_net.specs.Ternary.{StartsUnknown, SettledLevels};
 ghost use Rattle.switch_net.specs.Validity.{AreDistinct, IsNetwork};
+ghost use Rattle.switch_sim.specs.Incidence.{IsIncidence};
 ghost use Rattle.switch_sim.specs.Marking.{fixed_at, level_at, marks_at};
 ghost use Rattle.switch_sim.specs.Updating.{AreFixed, first_level, next_level, IsSized};
 
+use crate::incidence::Incidence;
 use crate::marking::mark_groups;
 use crate::marks::Marks;
+use crate::waiting::Waiting;
 use rx_text::Role;
 use switch_net::{Level, Network, Pad};
 
-/// What a simulation holds of each net: what its pad fixes it to, its charge, its level, and its marks.
+/// What a simulation holds of each net: what its pad fixes it to, its charge, its level, its marks, and the devices at it;
+/// and the nets whose devices wait to be looked at.
 #[derive(Drop)]
 pub(crate) struct Nets {
     pub(crate) fixed: Vec<Option<bool>>,
     pub(crate) charges: Vec<Level>,
     pub(crate) levels: Vec<Level>,
     pub(crate) marks: Vec<Marks>,
+    pub(crate) incidence: Incidence,
+    pub(crate) waiting: Waiting,
 }
 
 /// Settles the network from the levels, which become charges, while the pads are driven so.
 pub(crate) fn settle(network: &Network, drive: &[bool], nets: &mut Nets)
-    requires sized { IsSized network.now.nets nets.old }
+    requires sized { IsSized network.now nets.old }
     requires driven { length drive.now ≡ length network.now.pads }
     ensures levels { SettledLevels network.now drive.now (level_at nets.old.levels.items)
         (level_at nets.new.levels.items) }
-    ensures size { IsSized network.now.nets nets.new }
+    ensures size { IsSized network.now nets.new }
 {
     fix(network.pads(), drive, &mut nets.fixed);
     nets.charges.copy_from_slice(&nets.levels);
     forget(&nets.fixed, &mut nets.levels);
     iterate(
         network,
+        &nets.incidence,
         &nets.fixed,
         &nets.charges,
         &mut nets.levels,
         &mut nets.marks,
+        &mut nets.waiting,
     );
 }
 
 /// Updates the levels until they repeat, or as often as the number of nets and once more.
 fn iterate(
     network: &Network,
+    incidence: &Incidence,
     fixed: &[Option<bool>],
     charges: &[Level],
     levels: &mut [Level],
     marks: &mut [Marks],
+    waiting: &mut Waiting,
 )
     requires valid { IsNetwork network.now }
     requires fixed_sized { length fixed.now ≡ network.now.nets }
     requires charges_sized { length charges.now ≡ network.now.nets }
     requires levels_sized { length levels.old ≡ network.now.nets }
     requires marks_sized { length marks.old ≡ network.now.nets }
+    requires chains { IsIncidence network.now.devices incidence.now }
+    requires chains_sized { length incidence.now.last.items ≡ network.now.nets }
+    requires room { waiting.old.size ≡ network.now.nets }
     ensures levels { (drives : List Bool) → AreFixed fixed.now network.now.pads drives
         → StartsUnknown network.now drives (level_at levels.old)
         → SettledLevels network.now drives (level_at charges.now) (level_at levels.new) }
     ensures levels_size { length levels.new ≡ length levels.old }
     ensures marks_size { length marks.new ≡ length marks.old }
+    ensures room { waiting.new.size ≡ waiting.old.size }
 {
     for _ in 0..u64::from(network.nets()) + 1 {
-        mark_groups(network.devices(), fixed, charges, levels, marks);
+        mark_groups(
+            network.devices(),
+            incidence,
+            fixed,
+            charges,
+            levels,
+            marks,
+            waiting,
+        );
         if !update(fixed, marks, levels) {
             return;
         }

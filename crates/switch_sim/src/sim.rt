@@ -7,9 +7,11 @@ ghost use Rattle.switch_net.specs.declared.network.Level.TheVariants as level;
 ghost use Rattle.switch_sim.specs.Marking.{level_at};
 
 use crate::drive::Drive;
+use crate::incidence::Incidence;
 use crate::marks::Marks;
 use crate::no_memory::NoMemory;
 use crate::settling::{Nets, settle};
+use crate::waiting::Waiting;
 use std::alloc::Global;
 use std::marker::Model;
 use switch_net::{Level, Net, Network};
@@ -44,6 +46,7 @@ impl<'a> Sim<'a> {
             ≡ record { circuit = network.now; levels = replicate network.now.nets level.Unknown }) }
     {
         let count = network.nets() as usize;
+        let pads = network.pads();
         Ok(Sim {
             network,
             nets: Nets {
@@ -51,8 +54,10 @@ impl<'a> Sim<'a> {
                 charges: vec![in alloc; Level::Unknown; count]?,
                 levels: vec![in alloc; Level::Unknown; count]?,
                 marks: vec![in alloc; Marks::NONE; count]?,
+                incidence: Incidence::new(alloc, network.devices(), count)?,
+                waiting: Waiting::new(alloc, count)?,
             },
-            drive: vec![in alloc; false; network.pads().len()]?,
+            drive: vec![in alloc; false; pads.len()]?,
         })
     }
 

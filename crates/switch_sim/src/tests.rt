@@ -125,6 +125,17 @@ fn runs_small_networks(rt: HostRuntime) -> Result<(), Fail> {
         load(7),
     ];
     assert!(rt; shows(alloc, &ring, b"10\nchip\n", b"0 x\n1 x\n")?);
+    // A gate that is low for good: nothing leads to z, of whose charge nothing is known.
+    assert!(rt; shows(alloc, &[pass(1, 5, 7)], b"10\nchip\n", b"0 x\n1 x\n")?);
+    // The reset leaves z high and a second net low; x joins them, and their charges disagree.
+    assert!(rt;
+        shows(
+            alloc,
+            &[pass(4, 7, 0), pass(4, 8, 1), pass(5, 7, 8)],
+            b"00\n10\n00\nchip\n",
+            b"0 1\n1 1\n2 x\n3 x\n"
+        )?
+    );
     // A net behind a gate that is not known: it may be pulled down from its load.
     assert!(rt;
         shows(
@@ -177,17 +188,17 @@ fn reads_short_traces(rt: HostRuntime) -> Result<(), Fail> {
     let cases: [(&[u8], _); 13] = [
         (b"chip\n", Ok((0, 5))),
         (b"1\n0\nchip\nrxnet 1\n", Ok((2, 9))),
-        (b"12\nchip\n", Err(fault(TraceCode::BadBit, 1, 2))),
-        (b"\nchip\n", Err(fault(TraceCode::BadBit, 1, 1))),
-        (b"1\n1x\nchip\n", Err(fault(TraceCode::BadBit, 2, 2))),
-        (b"1\nchip2\n", Err(fault(TraceCode::BadBit, 2, 1))),
-        (b"1\r\nchip\n", Err(fault(TraceCode::BadBit, 1, 2))),
-        (b"chi", Err(fault(TraceCode::BadBit, 1, 1))),
-        (b"12", Err(fault(TraceCode::BadBit, 1, 2))),
-        (b"1", Err(fault(TraceCode::NoChip, 1, 2))),
-        (b"1\n", Err(fault(TraceCode::NoChip, 2, 1))),
-        (b"chip", Err(fault(TraceCode::NoChip, 1, 5))),
-        (b"", Err(fault(TraceCode::NoChip, 1, 1))),
+        (b"12\nchip\n", Err(fault(TraceCode::V1, 1, 2))),
+        (b"\nchip\n", Err(fault(TraceCode::V1, 1, 1))),
+        (b"1\n1x\nchip\n", Err(fault(TraceCode::V1, 2, 2))),
+        (b"1\nchip2\n", Err(fault(TraceCode::V1, 2, 1))),
+        (b"1\r\nchip\n", Err(fault(TraceCode::V1, 1, 2))),
+        (b"chi", Err(fault(TraceCode::V1, 1, 1))),
+        (b"12", Err(fault(TraceCode::V1, 1, 2))),
+        (b"1", Err(fault(TraceCode::V4, 1, 2))),
+        (b"1\n", Err(fault(TraceCode::V4, 2, 1))),
+        (b"chip", Err(fault(TraceCode::V4, 1, 5))),
+        (b"", Err(fault(TraceCode::V4, 1, 1))),
     ];
     for (text, want) in cases {
         let got = read(rt.alloc(), text)?;
@@ -200,12 +211,12 @@ fn reads_short_traces(rt: HostRuntime) -> Result<(), Fail> {
 fn counts_the_lines_of_a_trace(rt: HostRuntime) -> Result<(), Fail> {
     let cases: [(&[u8], _); 7] = [
         (b"chip\n", Ok((10_000, 20_005))),
-        (b"chip", Err(fault(TraceCode::NoChip, 10_001, 5))),
-        (b"", Err(fault(TraceCode::NoChip, 10_001, 1))),
-        (b"1\n", Err(fault(TraceCode::TooManyVectors, 10_001, 1))),
-        (b"12", Err(fault(TraceCode::TooManyVectors, 10_001, 1))),
-        (b"21\n", Err(fault(TraceCode::BadBit, 10_001, 1))),
-        (b"\n", Err(fault(TraceCode::BadBit, 10_001, 1))),
+        (b"chip", Err(fault(TraceCode::V4, 10_001, 5))),
+        (b"", Err(fault(TraceCode::V4, 10_001, 1))),
+        (b"1\n", Err(fault(TraceCode::V3, 10_001, 1))),
+        (b"12", Err(fault(TraceCode::V3, 10_001, 1))),
+        (b"21\n", Err(fault(TraceCode::V1, 10_001, 1))),
+        (b"\n", Err(fault(TraceCode::V1, 10_001, 1))),
     ];
     for (end, want) in cases {
         let mut text = Vec::new(rt.alloc());

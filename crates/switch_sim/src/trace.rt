@@ -87,8 +87,8 @@ pub(crate) enum Line {
 ///
 /// # Errors
 ///
-/// `Fault` exactly where the text does not begin with a trace, with the first fault in the text: `BadBit`,
-/// `TooManyVectors` or `NoChip`, at one place the first of these. `NoMemory` where an allocation was refused.
+/// `Fault` exactly where the text does not begin with a trace, with the first fault in the text: V1, V3 or
+/// V4, at one place the first of these. `NoMemory` where an allocation was refused.
 pub fn read_trace(alloc: Global, text: &[u8]) -> Result<(Trace, usize), ReadTraceFault>
     requires { length text.now < 2 ^ 32 - 1 }
     ensures read { IfOk result (λ read. IsTrace text.now read.0 read.1) }
@@ -198,7 +198,7 @@ fn no_chip(at: usize) -> TraceSpot
     ensures { Some result ≡ no_chip at }
 {
     TraceSpot {
-        code: TraceCode::NoChip,
+        code: TraceCode::V4,
         at,
     }
 }
@@ -226,19 +226,19 @@ fn line_fault(line: &[u8], at: usize, count: usize) -> Option<TraceSpot>
     let good = bit_count(line);
     if good == 0 {
         return Some(TraceSpot {
-            code: TraceCode::BadBit,
+            code: TraceCode::V1,
             at,
         });
     }
     if count >= MOST_VECTORS {
         return Some(TraceSpot {
-            code: TraceCode::TooManyVectors,
+            code: TraceCode::V3,
             at,
         });
     }
     if good < line.len() {
         return Some(TraceSpot {
-            code: TraceCode::BadBit,
+            code: TraceCode::V1,
             at: at + good,
         });
     }

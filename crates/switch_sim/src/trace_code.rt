@@ -10,14 +10,14 @@ use thiserror::Error;
 /// What is wrong with a trace.
 #[derive(Clone, Copy, Debug, PartialEq, Eq)]
 pub enum TraceCode {
-    /// A line is empty or has a byte that is neither `0` nor `1`, and is not `chip`.
-    BadBit,
-    /// A vector has not as many bits as the network has input pads.
-    WrongWidth,
-    /// More than 10,000 lines stand before the line `chip` or the end.
-    TooManyVectors,
-    /// The input ends before a line `chip` that a line feed ends.
-    NoChip,
+    /// BadBit: a line is empty or has a byte that is neither `0` nor `1`, and is not `chip`.
+    V1,
+    /// WrongWidth: a vector has not as many bits as the network has input pads.
+    V2,
+    /// TooManyVectors: more than 10,000 lines stand before the line `chip` or the end.
+    V3,
+    /// NoChip: the input ends before a line `chip` that a line feed ends.
+    V4,
 }
 
 /// A code, and the number of the byte at which it stands.

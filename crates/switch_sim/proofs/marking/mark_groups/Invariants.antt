@@ -1,14 +1,15 @@
-use Rattle.switch_sim.proofs.Marked.{IsSound, IsOwned}
-use Rattle.std.proofs.Common.{◌≡◌, length}
-use Rattle.switch_sim.specs.Sweeping.{all_unmarked}
+use Rattle.std.proofs.Common.{◌≡◌, ℕ, ◌<◌, length, get_or}
+use Rattle.switch_net.specs.declared.network.Device.{Device}
+use Rattle.switch_sim.specs.Spreading.{RestsOrWaits, AreJust, work_left}
 use Rattle.switch_sim.proofs.marking.mark_groups.Given as goal
 
-abbrev pub invariant-loop : goal.invariant-loop
-invariant-loop l = record {
-  sound : IsSound (length l.fn.marks) l.devices l.fixed l.charges l.levels l.marks;
-  owned : IsOwned (length l.fn.marks) l.devices l.fixed l.charges l.levels l.marks;
+abbrev pub invariant-loop-net : goal.invariant-loop-net
+invariant-loop-net l = record {
   size : length l.marks ≡ length l.fn.marks;
+  room : l.waiting.size ≡ l.fn.waiting.size;
+  just : AreJust (length l.fn.marks) l.devices l.fixed l.charges l.levels l.marks;
+  rest : (d : ℕ) (x : Device) → d < length l.devices → RestsOrWaits l.fixed l.levels l.marks l.waiting.nets (get_or l.devices d x);
 }
 
-abbrev pub decreases-loop : goal.decreases-loop
-decreases-loop l = all_unmarked l.marks
+abbrev pub decreases-loop-net : goal.decreases-loop-net
+decreases-loop-net l = work_left l.marks l.waiting.nets

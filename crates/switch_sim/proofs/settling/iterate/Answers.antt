@@ -1,4 +1,4 @@
-use Rattle.std.proofs.Common.{◌≡◌, suc, ◌-◌, length, subst, sym, arith, add-one}
+use Rattle.std.proofs.Common.{◌≡◌, suc, ◌-◌, ◌∙◌, length, subst, sym, arith, add-one}
 use Rattle.std.specs.Prelude.{All}
 use Rattle.switch_net.specs.ClockedLogic.{NamesBelow}
 use Rattle.switch_net.specs.Ternary.{SettledLevels, AfterUpdates, Updates}
@@ -10,6 +10,15 @@ pub mark_groups-requires-clause-below : goal.mark_groups-requires-clause-below
 mark_groups-requires-clause-below c =
     let size : c.args.network.now.nets ≡ length c.loop.marks = omega arith in
     rw (c.devices.ensures) (subst (λ n. All (NamesBelow n) c.args.network.now.devices) size c.requires.valid.devices_below)
+
+pub mark_groups-requires-clause-chains : goal.mark_groups-requires-clause-chains
+mark_groups-requires-clause-chains c = rw (c.devices.ensures) c.requires.chains
+
+pub mark_groups-requires-clause-room : goal.mark_groups-requires-clause-room
+mark_groups-requires-clause-room c =
+    let before = c.loop.invariant.room in
+    let room = c.requires.room in
+    omega (arith, before, room)
 
 pub loop-preserved : goal.loop-preserved
 loop-preserved c = record {
@@ -24,6 +33,7 @@ loop-preserved c = record {
             (level_at c.args.charges.now) (level_at c.loop.levels) (level_at c.update.new.levels) c.mark_groups.new.marks fixed c.mark_groups.ensures.marks
             c.loop.counter before c.update.ensures.levels,
       );
+  room = c.mark_groups.ensures.room ∙ c.loop.invariant.room;
 }
 
 pub returns-then-not-update-clause-levels : goal.returns-then-not-update-clause-levels

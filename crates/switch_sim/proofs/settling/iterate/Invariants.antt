@@ -1,4 +1,4 @@
-use Rattle.std.proofs.Common.{Bool, List}
+use Rattle.std.proofs.Common.{◌≡◌, Bool, List}
 use Rattle.switch_net.specs.Ternary.{StartsUnknown, AfterUpdates}
 use Rattle.switch_sim.specs.Marking.{level_at}
 use Rattle.switch_sim.specs.Updating.{AreFixed}
@@ -8,4 +8,5 @@ abbrev pub invariant-loop : goal.invariant-loop
 invariant-loop l = record {
   after : (drives : List Bool) → AreFixed l.fixed l.network.pads drives → StartsUnknown l.network drives (level_at l.fn.levels)
       → AfterUpdates l.network drives (level_at l.charges) l.counter (level_at l.levels);
+  room : l.waiting.size ≡ l.fn.waiting.size;
 }

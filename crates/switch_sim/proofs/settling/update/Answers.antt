@@ -1,15 +1,18 @@
-use Rattle.std.proofs.Common.{◌≡◌, ℕ, ◌<◌, ◌≢◌, List, get_or, length, arith, ◌∙◌, ap, get_or-set_same, get_or-set_other, below_more}
+use Rattle.std.proofs.Common.{◌≡◌, ℕ, ◌<◌, ◌≢◌, ◌||◌, Bool, true, false, refl, List, get_or, length, arith, ◌∙◌, ap, get_or-set_same, get_or-set_other, below_more}
 use Rattle.std.proofs.lemmas.List.{set-get_or, get_or_default}
 use Rattle.switch_net.specs.declared.network.Level.TheVariants.{Low, Unknown}
 use Rattle.switch_net.specs.declared.network.Level.{Level}
 use Rattle.switch_sim.specs.Marking.{fixed_at, marks_at, level_at}
 use Rattle.switch_sim.specs.Updating.{next_level}
-use Rattle.switch_sim.proofs.Sweeps.{both_false}
 use Rattle.switch_sim.proofs.settling.update.Goals as goal
 
 -- the level that the loop reads is the level of the net
 read : (levels : List Level) (net : ℕ) → net < length levels → get_or levels net Low ≡ level_at levels net
 read levels net lt = get_or_default levels net Low Unknown lt
+
+both_false : (a b : Bool) → (a || b) ≡ false → (a ≡ false) × (b ≡ false)
+both_false false b e = (refl, e)
+both_false true b e = absurd (cc)
 
 pub loop-net-preserved : goal.loop-net-preserved
 loop-net-preserved c =
