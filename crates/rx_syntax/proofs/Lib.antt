@@ -43,3 +43,4 @@ pub mod TablesSaid
 pub mod SoundTables
 pub mod NamesFollowed
 pub mod NameTokens
+pub mod DeclaredNames

@@ -20,7 +20,7 @@ abbrev piece : List ℕ → List ℕ
 piece text = take (first_size text) text
 
 -- a word that is a name is no keyword and not long
-short_word : (line symbol output expr short : Bool)
+pub short_word : (line symbol output expr short : Bool)
     → (if line then kinds.Line
     else (if symbol then kinds.Symbol
     else (if output then kinds.Output

@@ -1,11 +1,12 @@
 //! Laws of tokens, of first faults and of acceptance.
 
-ghost use Rattle.std.specs.Prelude.{◌≡◌, ◌⊎◌, ℕ, List};
+ghost use Rattle.std.specs.Prelude.{◌≡◌, ◌⊎◌, ℕ, true, List, All};
 ghost use Rattle.rx_syntax.specs.Lexemes.{Lexeme, LexemesFrom};
 ghost use Rattle.rx_syntax.specs.Refusals.{StandsFirst, IsShaped};
 ghost use Rattle.rx_syntax.specs.Accepted.{Accepted, Refused};
 ghost use Rattle.rx_syntax.specs.Printed.{printed};
 ghost use Rattle.rx_syntax.specs.SpecRefusal.{SpecRefusal};
+ghost use Rattle.rx_text.specs.Name.{is_name};
 ghost use Rattle.rx_text.specs.declared.place.Place.{Place};
 ghost use Rattle.rx_lang.specs.Specification.{Specification};
 ghost use Rattle.rx_syntax.specs.declared.spec_code.SpecCode.{SpecCode};
@@ -49,4 +50,10 @@ pub fn texts_are_accepted_or_refused_at_a_place()
 /// The text that an accepted specification is printed as is accepted as the same specification.
 pub fn printed_texts_are_read_back()
     ensures { (text : List ℕ) (limit : ℕ) (spec : Specification) → Accepted text limit spec → Accepted (printed spec) limit spec }
+{}
+
+/// The lines and outputs of an accepted specification bear names of the language.
+pub fn accepted_names_are_names()
+    ensures lines { (text : List ℕ) (limit : ℕ) (spec : Specification) → Accepted text limit spec → All (λ name. is_name name ≡ true) spec.lines }
+    ensures outputs { (text : List ℕ) (limit : ℕ) (spec : Specification) → Accepted text limit spec → All (λ name. is_name name ≡ true) spec.outputs }
 {}

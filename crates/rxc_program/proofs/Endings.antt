@@ -1,17 +1,15 @@
 -- How a run ends on an input that is known.
-use Rattle.std.proofs.Common.{◌≡◌, ℕ, ◌<◌, ◌≤◌, ◌⊎◌, inl, inr, ⊎_elim, List, Option, Some, None, length, refl, sym, ◌∙◌, subst, ap, arith, length-append}
-use Rattle.rx_io.specs.Streams.{GivesAll, LosesBeyond}
+use Rattle.std.proofs.Common.{◌≡◌, ℕ, ◌<◌, ◌≤◌, ◌⊎◌, inl, inr, List, Option, Some, None, length, refl, sym, ◌∙◌, subst, ap, arith, length-append}
+use Rattle.rx_io.specs.Streams.{LosesBeyond}
 use Rattle.rx_text.specs.declared.place.Place.{Place}
-use Rattle.rx_text.specs.declared.place.Place.TheVariants.{Whole}
-use Rattle.rxc_program.specs.Inputs.{most_input_bytes, Accepts, Breaks, IsAccepted, IsFileOf, IsRefused, InputsAreJudged, StandsFor}
-use Rattle.rxc_program.specs.Served.{IsServed, IsEndOfAccepted, IsEndOfRefused, Refuses}
+use Rattle.rxc_program.specs.Inputs.{most_input_bytes, Accepts, Breaks, IsAccepted, IsRefused, InputsAreJudged, StandsFor}
+use Rattle.rxc_program.specs.Served.{IsServed, IsEndOfAccepted, IsEndOfRefused, Refuses, StopsBy}
 use Rattle.rxc_program.specs.StatusText.{usage_word}
 use Rattle.rxc_program.specs.declared.status.Code.{Code}
-use Rattle.rxc_program.specs.declared.status.Code.TheVariants.{I1}
 use Rattle.rxc_program.specs.declared.status.Status.{Status}
 use Rattle.rxc_program.specs.declared.status.Status.TheVariants.{Done, Refused, Usage, ReadFault, WriteFault, NoMemory}
 use Rattle.rxc_program.specs.declared.words.Command.{Command}
-use Rattle.rxc_program.specs.declared.words.Command.TheVariants.{Net}
+use Rattle.rxc_program.specs.declared.words.Command.TheVariants.{Net, Sim}
 
 -- a known text that was lost beyond the limit is longer than the limit
 longer : (text : List ℕ) (left_new : Option (List ℕ)) (most more : ℕ) → LosesBeyond (Some text) left_new most more → most < length text
@@ -29,6 +27,7 @@ IsRefused-known command text left_new code place (inr (other, read, within, brok
 -- an input that stands for an output is accepted
 accepted_output : (command : Command) (text output : List ℕ) → StandsFor command text output → Accepts command text
 accepted_output Net text output h = (h.0, h.1)
+accepted_output Sim text output h = (h.0, h.1, h.2)
 
 -- a known text that was served is accepted
 served_accepted : (command : Command) (text : List ℕ) (left_new : Option (List ℕ)) (Took : List ℕ → Type 0) → IsServed command (Some text) left_new Took
@@ -74,17 +73,12 @@ ends_well WriteFault read_cause write_cause ends reads writes no_read no_write =
 ends_well (Refused code place) read_cause write_cause ends reads writes no_read no_write = absurd ends
 ends_well (Usage word) read_cause write_cause ends reads writes no_read no_write = absurd ends
 
--- a status of a command that wrote nothing, on an input that was read to its end: want of memory, or a refusal
-pub refused_by : (command : Command) (text : List ℕ) (status : Status)
-    → (status ≡ NoMemory) ⊎ ((code : Code) × (place : Place) × (status ≡ Refused code place) × Breaks command text code place)
-    → (code : Code) (place : Place) → status ≡ Refused code place → Breaks command text code place
-refused_by command text status (inl none) code place e = let f : NoMemory ≡ Refused code place = sym none ∙ e in absurd (cc)
-refused_by command text status (inr why) code place e =
+-- where a status is that there was no memory or a refusal for a reason, each refusal that it is has this reason
+pub refused_by : (Why : Code → Place → Type 0) (status : Status) → StopsBy Why status → (code : Code) (place : Place) → status ≡ Refused code place
+    → Why code place
+refused_by Why status (inl none) code place e = let f : NoMemory ≡ Refused code place = sym none ∙ e in absurd (cc)
+refused_by Why status (inr why) code place e =
     let same : Refused why.0 why.1 ≡ Refused code place = sym why.2 ∙ e in
     let is_code : why.0 ≡ code = cc in
     let is_place : why.1 ≡ place = cc in
-    subst (λ c. Breaks command text c place) is_code (subst (λ p. Breaks command text why.0 p) is_place why.3)
-
--- there is one command
-pub for_net : (P : Command → Type 0) → P Net → (command : Command) → P command
-for_net P h Net = h
+    subst (λ c. Why c place) is_code (subst (λ p. Why why.0 p) is_place why.3)

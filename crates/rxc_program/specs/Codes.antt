@@ -1,9 +1,13 @@
 -- The codes of refusals: their names, and those of each reader among them.
 use Rattle.std.specs.Prelude.{ℕ, List, codes}
+use Rattle.net_text.specs.declared.net_fault.NetCode.{NetCode}
+use Rattle.net_text.specs.declared.net_fault.NetCode.TheVariants as net
 use Rattle.rx_syntax.specs.declared.spec_code.SpecCode.{SpecCode}
 use Rattle.rx_syntax.specs.declared.spec_code.SpecCode.TheVariants as spec
+use Rattle.switch_sim.specs.declared.trace_code.TraceCode.{TraceCode}
+use Rattle.switch_sim.specs.declared.trace_code.TraceCode.TheVariants as trace
 use Rattle.rxc_program.specs.declared.status.Code.{Code}
-use Rattle.rxc_program.specs.declared.status.Code.TheVariants.{S1, S2, S3, S4, S5, S6, S7, S8, S9, S10, S11, S12, S13, S14, I1}
+use Rattle.rxc_program.specs.declared.status.Code.TheVariants.{S1, S2, S3, S4, S5, S6, S7, S8, S9, S10, S11, S12, S13, S14, N1, N2, N3, N4, N5, N6, V1, V2, V3, V4, I1}
 
 -- the code of a fault in a specification
 abbrev pub spec_code : SpecCode → Code
@@ -22,6 +26,22 @@ spec_code spec.S12 = S12
 spec_code spec.S13 = S13
 spec_code spec.S14 = S14
 
+-- the code of a fault in a network text
+abbrev pub net_code : NetCode → Code
+net_code net.N1 = N1
+net_code net.N2 = N2
+net_code net.N3 = N3
+net_code net.N4 = N4
+net_code net.N5 = N5
+net_code net.N6 = N6
+
+-- the code of a fault in a trace
+abbrev pub trace_code : TraceCode → Code
+trace_code trace.V1 = V1
+trace_code trace.V2 = V2
+trace_code trace.V3 = V3
+trace_code trace.V4 = V4
+
 -- the code and its name
 abbrev pub code_text : Code → List ℕ
 code_text S1 = codes "S1 BadByte"
@@ -38,4 +58,14 @@ code_text S11 = codes "S11 TooManySymbols"
 code_text S12 = codes "S12 TooManyOutputs"
 code_text S13 = codes "S13 TooManyLeaves"
 code_text S14 = codes "S14 TooDeep"
+code_text N1 = codes "N1 Syntax"
+code_text N2 = codes "N2 NetOutOfRange"
+code_text N3 = codes "N3 DoublePad"
+code_text N4 = codes "N4 MissingPad"
+code_text N5 = codes "N5 TooManyNets"
+code_text N6 = codes "N6 AfterEnd"
+code_text V1 = codes "V1 BadBit"
+code_text V2 = codes "V2 WrongWidth"
+code_text V3 = codes "V3 TooManyVectors"
+code_text V4 = codes "V4 NoChip"
 code_text I1 = codes "I1 TooLong"

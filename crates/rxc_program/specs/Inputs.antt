@@ -1,5 +1,5 @@
 -- Which inputs a command accepts, why it refuses the others, and what it writes.
-use Rattle.std.specs.Prelude.{◌≡◌, ℕ, ◌≤◌, ◌<◌, List, length, ◌⊎◌}
+use Rattle.std.specs.Prelude.{◌≡◌, ℕ, ◌≤◌, ◌<◌, Bool, List, length, ◌⊎◌}
 use Rattle.rx_lang.specs.Specification.{Specification, Language}
 use Rattle.rx_syntax.specs.Accepted.{Accepted}
 use Rattle.rx_syntax.specs.SpecRefusal.{SpecRefusal}
@@ -9,19 +9,21 @@ use Rattle.rx_text.specs.declared.place.Place.TheVariants.{Whole}
 use Rattle.switch_net.specs.Circuit.{Circuit}
 use Rattle.switch_net.specs.Recognition.{HasPads, Recognises, ShowsSurely}
 use Rattle.net_text.specs.NetworkText.{IsNetworkText}
+use Rattle.switch_sim.specs.TraceLines.{TraceLines}
 use Rattle.rxc_program.specs.Codes.{spec_code}
+use Rattle.rxc_program.specs.Driven.{Drives, BreaksDriven}
 use Rattle.rxc_program.specs.declared.status.Code.{Code}
 use Rattle.rxc_program.specs.declared.status.Code.TheVariants.{I1}
 use Rattle.rxc_program.specs.declared.words.Command.{Command}
-use Rattle.rxc_program.specs.declared.words.Command.TheVariants.{Net}
+use Rattle.rxc_program.specs.declared.words.Command.TheVariants.{Net, Sim}
 
 -- the most bytes of an input
 abbrev pub most_input_bytes : ℕ
 most_input_bytes = 67108864
 
--- the most symbols in the expressions of a specification
-abbrev pub most_leaves : Command → ℕ
-most_leaves Net = 4096
+-- the most symbols in the expressions of a specification that is compiled to cells
+abbrev pub most_leaves : ℕ
+most_leaves = 4096
 
 -- A network of the specification: it has the pads of the specification, and from all charges each output is high after t
 -- clocks exactly where the first t input vectors lie in its language; so also in a ternary run, in which no output is unknown.
@@ -38,15 +40,18 @@ pub record IsFileOf (spec : Specification) (file : List ℕ) : Type 0 where
 
 -- The text is one that the command accepts, and it stands for this output.
 abbrev pub StandsFor : Command → List ℕ → List ℕ → Type 0
-StandsFor Net text output = (spec : Specification) × Accepted text (most_leaves Net) spec × IsFileOf spec output
+StandsFor Net text output = (spec : Specification) × Accepted text most_leaves spec × IsFileOf spec output
+StandsFor Sim text output = (vectors : List (List Bool)) × (circuit : Circuit) × Drives text vectors circuit × TraceLines circuit vectors output
 
 -- The text is one that the command accepts.
 abbrev pub Accepts : Command → List ℕ → Type 0
-Accepts Net text = (spec : Specification) × Accepted text (most_leaves Net) spec
+Accepts Net text = (spec : Specification) × Accepted text most_leaves spec
+Accepts Sim text = (vectors : List (List Bool)) × (circuit : Circuit) × Drives text vectors circuit
 
 -- The text breaks this condition of the command at this place, before any other.
 abbrev pub Breaks : Command → List ℕ → Code → Place → Type 0
-Breaks Net text code place = (named : SpecCode) × (code ≡ spec_code named) × SpecRefusal text (most_leaves Net) named place
+Breaks Net text code place = (named : SpecCode) × (code ≡ spec_code named) × SpecRefusal text most_leaves named place
+Breaks Sim text code place = BreaksDriven text code place
 
 -- The input is accepted: it is not too long, and a text that the command accepts.
 pub record IsAccepted (command : Command) (text : List ℕ) : Type 0 where

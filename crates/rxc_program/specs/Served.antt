@@ -1,15 +1,20 @@
 -- How a run of a command ends, by what it read and wrote.
-use Rattle.std.specs.Prelude.{◌≡◌, ◌≤◌, ℕ, Bool, true, false, List, Option, length, ⊤, ◌⊎◌}
+use Rattle.std.specs.Prelude.{◌≡◌, ◌≤◌, ℕ, Bool, true, false, not, List, Option, length, ⊤, ◌⊎◌}
 use Rattle.rx_io.specs.Streams.{GivesAll, LosesBeyond}
 use Rattle.rx_io.specs.declared.reading.TheConstants.{READ_SIZE}
 use Rattle.rx_text.specs.declared.place.Place.{Place}
 use Rattle.rx_text.specs.declared.place.Place.TheVariants.{Whole}
-use Rattle.rxc_program.specs.Inputs.{most_input_bytes, Breaks, IsAccepted, StandsFor}
+use Rattle.rxc_program.specs.Inputs.{most_input_bytes, Breaks, StandsFor}
 use Rattle.rxc_program.specs.declared.status.Code.{Code}
 use Rattle.rxc_program.specs.declared.status.Code.TheVariants.{I1}
 use Rattle.rxc_program.specs.declared.status.Status.{Status}
 use Rattle.rxc_program.specs.declared.status.Status.TheVariants.{Done, Refused, Usage, ReadFault, WriteFault, NoMemory}
 use Rattle.rxc_program.specs.declared.words.Command.{Command}
+use Rattle.rxc_program.specs.declared.words.Command.TheVariants.{Net, Sim}
+
+-- A sink took this of an output that the text stands for.
+abbrev pub TakesOutput : Command → List ℕ → (List ℕ → Type 0) → Type 0
+TakesOutput command text Took = (output : List ℕ) × StandsFor command text output × Took output
 
 -- The source gave an accepted input to its end, and the sink took this of an output that the input stands for.
 pub record IsServed (command : Command) (left_old left_new : Option (List ℕ)) (Took : List ℕ → Type 0) : Type 0 where
@@ -25,6 +30,10 @@ abbrev pub Refuses : Command → (left_old left_new : Option (List ℕ)) → Cod
 Refuses command left_old left_new code place =
     ((code ≡ I1) × (place ≡ Whole) × LosesBeyond left_old left_new most_input_bytes READ_SIZE)
     ⊎ ((text : List ℕ) × GivesAll left_old left_new text × (length text ≤ most_input_bytes) × Breaks command text code place)
+
+-- There was no memory, or the input is refused for this reason.
+abbrev pub StopsBy : (Code → Place → Type 0) → Status → Type 0
+StopsBy Why status = (status ≡ NoMemory) ⊎ ((code : Code) × (place : Place) × (status ≡ Refused code place) × Why code place)
 
 -- how a run on an accepted input ends
 abbrev pub IsEndOfAccepted : Status → Type 0
@@ -44,14 +53,19 @@ IsEndOfRefused code place Done = ⊥
 IsEndOfRefused code place WriteFault = ⊥
 IsEndOfRefused code place (Usage word) = ⊥
 
--- the sink was written to
-abbrev pub writes : Status → Bool
-writes Done = true
-writes WriteFault = true
-writes ReadFault = false
-writes NoMemory = false
-writes (Refused code place) = false
-writes (Usage word) = false
+-- the command takes all memory before its first byte is written
+abbrev pub takes_memory_first : Command → Bool
+takes_memory_first Net = true
+takes_memory_first Sim = false
+
+-- the sink may have been written to
+abbrev pub writes : Command → Status → Bool
+writes command Done = true
+writes command WriteFault = true
+writes command NoMemory = not (takes_memory_first command)
+writes command ReadFault = false
+writes command (Refused code place) = false
+writes command (Usage word) = false
 
 -- reading came to no end
 abbrev pub stops_reading : Status → Bool

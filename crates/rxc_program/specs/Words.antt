@@ -1,7 +1,7 @@
 -- Which lists of words are commands, and at which word any other list goes wrong.
 use Rattle.std.specs.Prelude.{ℕ, suc, ◌+◌, ◌&&◌, Bool, true, false, List, [], ◌∷◌, Option, Some, None, map, fold, max, find, bytes_eq, codes, option_map, is_some, if◌then◌else◌}
 use Rattle.rxc_program.specs.declared.words.Command.{Command}
-use Rattle.rxc_program.specs.declared.words.Command.TheVariants.{Net}
+use Rattle.rxc_program.specs.declared.words.Command.TheVariants.{Net, Sim}
 
 -- a command, with a test for each of its words
 pub record Usage : Type 0 where
@@ -9,7 +9,10 @@ pub record Usage : Type 0 where
   pub tests : List (List ℕ → Bool)
 
 abbrev pub commands : List Usage
-commands = record { names = Net; tests = bytes_eq (codes "net") ∷ [] } ∷ []
+commands =
+    record { names = Net; tests = bytes_eq (codes "net") ∷ [] }
+    ∷ record { names = Sim; tests = bytes_eq (codes "sim") ∷ [] }
+    ∷ []
 
 -- the words are just such as the tests ask for
 abbrev pub fits : List (List ℕ) → List (List ℕ → Bool) → Bool

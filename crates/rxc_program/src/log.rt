@@ -97,6 +97,16 @@ fn code_text(code: Code) -> &'static [u8]
         Code::S12 => b"S12 TooManyOutputs",
         Code::S13 => b"S13 TooManyLeaves",
         Code::S14 => b"S14 TooDeep",
+        Code::N1 => b"N1 Syntax",
+        Code::N2 => b"N2 NetOutOfRange",
+        Code::N3 => b"N3 DoublePad",
+        Code::N4 => b"N4 MissingPad",
+        Code::N5 => b"N5 TooManyNets",
+        Code::N6 => b"N6 AfterEnd",
+        Code::V1 => b"V1 BadBit",
+        Code::V2 => b"V2 WrongWidth",
+        Code::V3 => b"V3 TooManyVectors",
+        Code::V4 => b"V4 NoChip",
         Code::I1 => b"I1 TooLong",
     }
 }

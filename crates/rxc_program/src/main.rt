@@ -1,17 +1,22 @@
 //! `rxc`, a silicon compiler for regular expressions: the top call, and the program round it.
 #![tactic(auto)]
 
+mod laws;
 mod log;
 mod net;
 mod serve;
+mod sim;
 mod status;
 mod top;
 mod words;
 
+pub use laws::{inputs_are_judged, networks_show_their_languages, sim_has_one_output};
 pub use status::{Code, Status};
 pub use top::rxc;
 pub use words::RxWord;
 
+#[cfg(test)]
+mod sim_tests;
 #[cfg(test)]
 mod tests;
 

@@ -6,6 +6,7 @@ ghost use Rattle.rx_lang.specs.Tables.{specification};
 ghost use Rattle.rx_syntax.specs.Accepted.{Accepted};
 ghost use Rattle.switch_net.specs.Validity.{IsNetwork};
 ghost use Rattle.rxc_program.specs.Inputs.{most_input_bytes, most_leaves, Breaks, IsNetworkOf};
+ghost use Rattle.rxc_program.specs.Served.{StopsBy};
 ghost use Rattle.rxc_program.specs.declared.words.Command.TheVariants.{Net};
 
 use crate::status::{Code, Status};
@@ -24,10 +25,9 @@ const MOST_LEAVES: u32 = 4096;
 /// The network of the specification that the text is.
 pub(crate) fn compile(alloc: Global, text: &[u8]) -> Result<Network, Status>
     requires { length text.now ≤ most_input_bytes }
-    ensures network { IfOk result (λ network. (spec : Specification) × Accepted text.now (most_leaves Net) spec × IsNetworkOf spec network) }
+    ensures network { IfOk result (λ network. (spec : Specification) × Accepted text.now most_leaves spec × IsNetworkOf spec network) }
     ensures valid { IfOk result (λ network. IsNetwork network × (network.nets ≤ 16777216)) }
-    ensures status { IfErr result (λ status. (status ≡ Status.NoMemory)
-        ⊎ ((code : Code) × (place : Place) × (status ≡ Status.Refused code place) × Breaks Net text.now code place)) }
+    ensures status { IfErr result (StopsBy (Breaks Net text.now)) }
 {
     let spec = specification(alloc, text)?;
     network_of(alloc, &spec)
@@ -36,9 +36,8 @@ pub(crate) fn compile(alloc: Global, text: &[u8]) -> Result<Network, Status>
 /// The specification that the text is.
 fn specification(alloc: Global, text: &[u8]) -> Result<Spec, Status>
     requires { length text.now ≤ most_input_bytes }
-    ensures accepted { IfOk result (λ spec. Accepted text.now (most_leaves Net) (specification spec)) }
-    ensures status { IfErr result (λ status. (status ≡ Status.NoMemory)
-        ⊎ ((code : Code) × (place : Place) × (status ≡ Status.Refused code place) × Breaks Net text.now code place)) }
+    ensures accepted { IfOk result (λ spec. Accepted text.now most_leaves (specification spec)) }
+    ensures status { IfErr result (StopsBy (Breaks Net text.now)) }
 {
     match read_spec(alloc, text, MOST_LEAVES) {
         Ok(spec) => Ok(spec),

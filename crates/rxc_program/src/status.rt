@@ -1,11 +1,13 @@
 // How a run of the program ends.
 
 ghost use Rattle.std.specs.Prelude.{◌≡◌};
-ghost use Rattle.rxc_program.specs.Codes.{spec_code};
+ghost use Rattle.rxc_program.specs.Codes.{net_code, spec_code, trace_code};
 ghost use Rattle.rxc_program.specs.StatusText.{exit_number};
 
+use net_text::NetCode;
 use rx_syntax::SpecCode;
 use rx_text::Place;
+use switch_sim::TraceCode;
 
 /// Why an input is refused.
 #[derive(Clone, Copy, Debug, PartialEq, Eq)]
@@ -38,6 +40,26 @@ pub enum Code {
     S13,
     /// TooDeep: more than 200 parentheses are open at once.
     S14,
+    /// Syntax: no network text goes on with this byte, or ends here.
+    N1,
+    /// NetOutOfRange: a net is not below the number of nets.
+    N2,
+    /// DoublePad: a pad repeats the name or the net of an earlier pad.
+    N3,
+    /// MissingPad: a supply, a clock or the reset has no pad.
+    N4,
+    /// TooManyNets: a network has more than 16,777,216 nets.
+    N5,
+    /// AfterEnd: a byte stands behind the line `end` of a network text.
+    N6,
+    /// BadBit: a line of a trace is empty or has a byte that is neither `0` nor `1`, and is not `chip`.
+    V1,
+    /// WrongWidth: a vector has not as many bits as the network has input pads.
+    V2,
+    /// TooManyVectors: more than 10,000 lines stand before the line `chip` or the end.
+    V3,
+    /// NoChip: the input ends before a line `chip` that a line feed ends.
+    V4,
     /// TooLong: the input has more than 67,108,864 bytes.
     I1,
 }
@@ -64,6 +86,32 @@ impl Code {
             SpecCode::S14 => Code::S14,
         }
     }
+
+    /// The code of a fault in a network text.
+    pub(crate) fn of_net(code: NetCode) -> Code
+        ensures { result ≡ net_code code }
+    {
+        match code {
+            NetCode::N1 => Code::N1,
+            NetCode::N2 => Code::N2,
+            NetCode::N3 => Code::N3,
+            NetCode::N4 => Code::N4,
+            NetCode::N5 => Code::N5,
+            NetCode::N6 => Code::N6,
+        }
+    }
+
+    /// The code of a fault in a trace.
+    pub(crate) fn of_trace(code: TraceCode) -> Code
+        ensures { result ≡ trace_code code }
+    {
+        match code {
+            TraceCode::V1 => Code::V1,
+            TraceCode::V2 => Code::V2,
+            TraceCode::V3 => Code::V3,
+            TraceCode::V4 => Code::V4,
+        }
+    }
 }
 
 /// How a run ends.
@@ -79,7 +127,7 @@ pub enum Status {
     ReadFault,
     /// The sink failed; a front of the output was written.
     WriteFault,
-    /// No memory was to be had; nothing was written.
+    /// No memory was to be had; a front of the output was written, and none of it by `net`.
     NoMemory,
 }
 

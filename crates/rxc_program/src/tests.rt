@@ -8,7 +8,7 @@ use std::test::Fail;
 
 /// The specification of one occurrence, and its network after the drawings of a leaf and of the frame: loads, the gates of the
 /// frame and of the leaf with its mark, and the registers of both.
-const ONE: &[u8] = b"line x;\nsymbol a = 1;\noutput z;\nexpr a !z;\n";
+pub(crate) const ONE: &[u8] = b"line x;\nsymbol a = 1;\noutput z;\nexpr a !z;\n";
 
 const ONE_NETWORK: &[u8] =
     b"rxnet 1\nnets 22\nvdd 0\ngnd 1\nphi1 2\nphi2 3\nreset 4\nin x 5\nout z 17\n\
@@ -20,28 +20,28 @@ const ONE_PADS: &[u8] = b"\nvdd 0\ngnd 1\nphi1 2\nphi2 3\nreset 4\nin x 5\nout z
 
 /// What a run came to: its status, and what the output and the log took.
 #[derive(Drop)]
-struct Outcome {
-    status: Status,
-    out: Vec<u8>,
-    log: Vec<u8>,
+pub(crate) struct Outcome {
+    pub(crate) status: Status,
+    pub(crate) out: Vec<u8>,
+    pub(crate) log: Vec<u8>,
 }
 
 /// How the source and the sink fail, and how much the sink takes.
 #[derive(Clone, Copy)]
-struct Faults {
-    read: u32,
-    write: u32,
-    most: usize,
+pub(crate) struct Faults {
+    pub(crate) read: u32,
+    pub(crate) write: u32,
+    pub(crate) most: usize,
 }
 
 /// Neither fails, and the sink takes each piece whole.
-const NO_FAULTS: Faults = Faults {
+pub(crate) const NO_FAULTS: Faults = Faults {
     read: 0,
     write: 0,
     most: usize::MAX,
 };
 
-fn command_words(alloc: Global, words: &[&[u8]]) -> Result<Vec<RxWord>, Fail> {
+pub(crate) fn command_words(alloc: Global, words: &[&[u8]]) -> Result<Vec<RxWord>, Fail> {
     let mut list = Vec::new(alloc);
     for word in words {
         list.push(RxWord::new(word.to_vec(alloc)?))?;
@@ -50,7 +50,12 @@ fn command_words(alloc: Global, words: &[&[u8]]) -> Result<Vec<RxWord>, Fail> {
 }
 
 /// Runs the words on the text. A call that fails is named by its number, from 1; 0 is none.
-fn run_on(alloc: Global, words: &[&[u8]], text: &[u8], faults: Faults) -> Result<Outcome, Fail> {
+pub(crate) fn run_on(
+    alloc: Global,
+    words: &[&[u8]],
+    text: &[u8],
+    faults: Faults,
+) -> Result<Outcome, Fail> {
     let words = command_words(alloc, words)?;
     let mut src = MemSource::new(text.to_vec(alloc)?, vec![in alloc; faults.read]?);
     let most = faults.most.max(1);
@@ -80,8 +85,8 @@ fn writes_the_network_of_one_occurrence(rt: HostRuntime) -> Result<(), Fail> {
 }
 
 #[test]
-fn takes_one_command(rt: HostRuntime) -> Result<(), Fail> {
-    let cases: [(&[&[u8]], Status, &[u8]); 5] = [
+fn takes_two_commands(rt: HostRuntime) -> Result<(), Fail> {
+    let cases: [(&[&[u8]], Status, &[u8]); 8] = [
         (&[], Status::Usage { word: 1 }, b"rxc: usage, word 1\n"),
         (
             &[b"nte"],
@@ -91,6 +96,17 @@ fn takes_one_command(rt: HostRuntime) -> Result<(), Fail> {
         (&[b""], Status::Usage { word: 1 }, b"rxc: usage, word 1\n"),
         (
             &[b"net", b"net"],
+            Status::Usage { word: 2 },
+            b"rxc: usage, word 2\n",
+        ),
+        (&[b"si"], Status::Usage { word: 1 }, b"rxc: usage, word 1\n"),
+        (
+            &[b"sim", b"net"],
+            Status::Usage { word: 2 },
+            b"rxc: usage, word 2\n",
+        ),
+        (
+            &[b"net", b"sim", b"sim"],
             Status::Usage { word: 2 },
             b"rxc: usage, word 2\n",
         ),
@@ -210,7 +226,7 @@ fn refuses_each_front_of_a_specification(rt: HostRuntime) -> Result<(), Fail> {
 }
 
 /// Bytes that look random.
-fn noise(alloc: Global, seed: u32, length: u32) -> Result<Vec<u8>, Fail> {
+pub(crate) fn noise(alloc: Global, seed: u32, length: u32) -> Result<Vec<u8>, Fail> {
     let mut bytes = Vec::new(alloc);
     let mut state = seed;
     for _ in 0..length {
@@ -363,15 +379,22 @@ fn tells_a_failing_source(rt: HostRuntime) -> Result<(), Fail> {
     Ok(())
 }
 
-/// Lets each call of the sink fail in turn, until a run meets no failure. Answers how many runs failed.
-fn failing_runs(rt: &impl Abort, alloc: Global, whole: &[u8], most: usize) -> Result<usize, Fail> {
+/// Lets each call of the sink, which takes so many bytes, fail in turn, until a run meets no failure. Answers how many runs
+/// failed.
+pub(crate) fn failing_runs(
+    rt: &impl Abort,
+    alloc: Global,
+    (word, text): (&[u8], &[u8]),
+    whole: &[u8],
+    most: usize,
+) -> Result<usize, Fail> {
     for write in 1..1000u32 {
         let faults = Faults {
             read: 0,
             write,
             most,
         };
-        let run = run_on(alloc, &[b"net"], ONE, faults)?;
+        let run = run_on(alloc, &[word], text, faults)?;
         if run.status == Status::Done {
             assert_eq!(rt; run.out.as_slice(), whole);
             return Ok(write as usize - 1);
@@ -392,7 +415,7 @@ fn tells_a_failing_sink(rt: HostRuntime) -> Result<(), Fail> {
     for most in [1, 2, 16, usize::MAX] {
         let calls = run.out.len().div_ceil(most);
         assert_eq!(rt;
-            failing_runs(&rt, rt.alloc(), &run.out, most)?,
+            failing_runs(&rt, rt.alloc(), (b"net", ONE), &run.out, most)?,
             calls,
             "{most}"
         );

@@ -1,21 +1,23 @@
 // The top call.
 
-ghost use Rattle.std.specs.Prelude.{◌≡◌, ◌≤◌, ◌⊎◌, ℕ, List, Some, None, true, false};
+ghost use Rattle.std.specs.Prelude.{◌≡◌, ◌≤◌, ◌⊎◌, ℕ, Bool, List, Some, None, true, false};
 ghost use Rattle.std.specs.Io.KnownBytes.{Appends};
 ghost use Rattle.rx_io.specs.Causes.{Rose};
 ghost use Rattle.rx_io.specs.Streams.{AppendsFront, LosesUpTo};
-ghost use Rattle.rxc_program.specs.Inputs.{InputsAreJudged, IsAccepted, IsRefused, most_input_bytes};
+ghost use Rattle.rx_lang.specs.Specification.{Specification};
+ghost use Rattle.rxc_program.specs.Inputs.{IsAccepted, IsRefused, most_input_bytes};
 ghost use Rattle.rxc_program.specs.Logged.{TakesOrFails};
 ghost use Rattle.rxc_program.specs.Served.{IsEndOfAccepted, IsEndOfRefused, IsServed, Refuses, stops_reading, writes};
 ghost use Rattle.rxc_program.specs.StatusText.{status_line, usage_word};
+ghost use Rattle.rxc_program.specs.Telling.{DrivesFile, TellsLanguages};
 ghost use Rattle.rxc_program.specs.Words.{named, wrong_word};
 
+use crate::laws::{inputs_are_judged, networks_show_their_languages};
 use crate::log::tell;
 use crate::serve::serve;
 use crate::status::{Code, Status};
 use crate::words::{Command, RxWord, named_command};
 use rx_io::{Sink, Source};
-use rx_syntax::laws::texts_are_accepted_or_refused;
 use rx_text::Place;
 use std::alloc::Global;
 
@@ -37,10 +39,17 @@ pub fn rxc<S: Source, O: Sink, L: Sink>(
         → IsServed command (S.left src.old) (S.left src.new) (Appends (O.held out.old) (O.held out.new)) }
     ensures write_fault { (command : Command) → named words.now ≡ Some command → result ≡ Status.WriteFault
         → IsServed command (S.left src.old) (S.left src.new) (AppendsFront (O.held out.old) (O.held out.new)) }
-    ensures unwritten { writes result ≡ false → out.new ≡ out.old }
+    ensures no_memory { (command : Command) → named words.now ≡ Some command → result ≡ Status.NoMemory
+        → (out.new ≡ out.old) ⊎ IsServed command (S.left src.old) (S.left src.new) (AppendsFront (O.held out.old) (O.held out.new)) }
+    ensures unwritten { (command : Command) → named words.now ≡ Some command → writes command result ≡ false → out.new ≡ out.old }
     ensures refused { (command : Command) → named words.now ≡ Some command → (code : Code) (place : Place)
         → result ≡ Status.Refused code place → Refuses command (S.left src.old) (S.left src.new) code place }
     ensures lost { stops_reading result ≡ true → LosesUpTo (S.left src.old) (S.left src.new) most_input_bytes }
+
+    // On a trace and the file of a specification `sim` writes the bits of the languages.
+    ensures languages { named words.now ≡ Some Command.Sim → result ≡ Status.Done → (text : List ℕ) → S.left src.old ≡ Some text
+        → (spec : Specification) (vectors : List (List Bool)) → DrivesFile text spec vectors
+        → (output : List ℕ) × TellsLanguages spec vectors output × Appends (O.held out.old) (O.held out.new) output }
 
     // How a run on an input that is known ends.
     ensures accepted { (command : Command) → named words.now ≡ Some command → (text : List ℕ) → S.left src.old ≡ Some text
@@ -63,6 +72,7 @@ pub fn rxc<S: Source, O: Sink, L: Sink>(
     ensures log_count { L.faults log.old ≤ L.faults log.new }
 {
     inputs_are_judged();
+    networks_show_their_languages();
     let status = run(alloc, words, src, out);
     tell(log, &status);
     status
@@ -77,7 +87,9 @@ fn run<S: Source, O: Sink>(alloc: Global, words: &[RxWord], src: &mut S, out: &m
         → IsServed command (S.left src.old) (S.left src.new) (Appends (O.held out.old) (O.held out.new)) }
     ensures write_fault { (command : Command) → named words.now ≡ Some command → result ≡ Status.WriteFault
         → IsServed command (S.left src.old) (S.left src.new) (AppendsFront (O.held out.old) (O.held out.new)) }
-    ensures unwritten { writes result ≡ false → out.new ≡ out.old }
+    ensures no_memory { (command : Command) → named words.now ≡ Some command → result ≡ Status.NoMemory
+        → (out.new ≡ out.old) ⊎ IsServed command (S.left src.old) (S.left src.new) (AppendsFront (O.held out.old) (O.held out.new)) }
+    ensures unwritten { (command : Command) → named words.now ≡ Some command → writes command result ≡ false → out.new ≡ out.old }
     ensures refused { (command : Command) → named words.now ≡ Some command → (code : Code) (place : Place)
         → result ≡ Status.Refused code place → Refuses command (S.left src.old) (S.left src.new) code place }
     ensures lost { stops_reading result ≡ true → LosesUpTo (S.left src.old) (S.left src.new) most_input_bytes }
@@ -90,12 +102,4 @@ fn run<S: Source, O: Sink>(alloc: Global, words: &[RxWord], src: &mut S, out: &m
         Ok(command) => serve(alloc, command, src, out),
         Err(word) => Status::Usage { word },
     }
-}
-
-/// Every input is accepted by a command or refused by it for one reason, and never both. It runs nothing: a caller has the
-/// law from its contract.
-pub fn inputs_are_judged()
-    ensures { InputsAreJudged }
-{
-    texts_are_accepted_or_refused();
 }

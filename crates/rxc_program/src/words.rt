@@ -1,6 +1,6 @@
 // The words of the command line, and the command that they name.
 
-ghost use Rattle.std.specs.Prelude.{◌≡◌, ◌<◌, ◌^◌, length, bytes_eq, Some, IfOk};
+ghost use Rattle.std.specs.Prelude.{◌≡◌, ◌<◌, ◌^◌, ◌==◌, length, bytes_eq, Some, Ok, Err, IfOk, if◌then◌else◌};
 ghost use Rattle.std.specs.Result.{result_err};
 ghost use Rattle.rxc_program.specs.Words.{named, wrong_word};
 
@@ -41,6 +41,8 @@ impl RxWord {
 pub enum Command {
     /// A specification in, the text of its switch network out.
     Net,
+    /// A trace and the text of a network in, the levels of the network's outputs after each clock out.
+    Sim,
 }
 
 /// The command that the words name. An error is the number of the first word, from 1, at which no command goes on.
@@ -49,13 +51,15 @@ pub(crate) fn named_command(words: &[RxWord]) -> Result<Command, u32>
     ensures wrong { result_err result ≡ wrong_word words.now }
 {
     match words {
-        [first, rest @ ..] if first.is(b"net") => {
-            if rest.is_empty() {
-                Ok(Command::Net)
-            } else {
-                Err(2)
-            }
-        }
+        [first, rest @ ..] if first.is(b"net") => alone(Command::Net, rest),
+        [first, rest @ ..] if first.is(b"sim") => alone(Command::Sim, rest),
         _ => Err(1),
     }
+}
+
+/// The command of one word, where no word follows it.
+fn alone(command: Command, rest: &[RxWord]) -> Result<Command, u32>
+    ensures { result ≡ if length rest.now == 0 then Ok command else Err 2 }
+{
+    if rest.is_empty() { Ok(command) } else { Err(2) }
 }

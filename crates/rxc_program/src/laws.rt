@@ -1,0 +1,41 @@
+// Laws of inputs and outputs. These functions run nothing: a caller has the law from the contract.
+
+ghost use Rattle.std.specs.Prelude.{◌≡◌, ℕ, List};
+ghost use Rattle.rxc_program.specs.Inputs.{InputsAreJudged, StandsFor};
+ghost use Rattle.rxc_program.specs.Telling.{FilesShowTheirLanguages, NetworksShowTheirLanguages};
+ghost use Rattle.rxc_program.specs.declared.words.Command.TheVariants.{Sim};
+
+use net_text::{text_is_of_one_network, texts_are_networks_or_refused};
+use rx_syntax::laws::{accepted_names_are_names, texts_are_accepted_or_refused};
+use switch_sim::{texts_are_traces_or_refused, traces_have_one_output};
+
+/// Every input is accepted by a command or refused by it for one reason, and never both.
+pub fn inputs_are_judged()
+    ensures { InputsAreJudged }
+{
+    texts_are_accepted_or_refused();
+    texts_are_traces_or_refused();
+    texts_are_networks_or_refused();
+    text_is_of_one_network();
+}
+
+/// An input of `sim` stands for one output.
+pub fn sim_has_one_output()
+    ensures { (text some others : List ℕ) → StandsFor Sim text some → StandsFor Sim text others → some ≡ others }
+{
+    texts_are_traces_or_refused();
+    text_is_of_one_network();
+    traces_have_one_output();
+}
+
+/// The output of `sim` on a compiled network tells the languages of its specification: in the line after t clocks the bit of
+/// an output is `1` exactly where the first t vectors lie in its language, else `0`, and never `x`. So it does on a file that
+/// `net` wrote, behind a trace with one bit for each line.
+pub fn networks_show_their_languages()
+    ensures networks { NetworksShowTheirLanguages }
+    ensures files { FilesShowTheirLanguages }
+{
+    accepted_names_are_names();
+    texts_are_traces_or_refused();
+    text_is_of_one_network();
+}
