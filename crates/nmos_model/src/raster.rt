@@ -46,19 +46,6 @@ impl Cover {
         implant: false,
     };
 
-    /// The layer covers the square.
-    pub(crate) fn covers(self, layer: Layer) -> bool
-        ensures { result ≡ covers layer self }
-    {
-        match layer {
-            Layer::Diffusion => self.diffusion,
-            Layer::Poly => self.poly,
-            Layer::Metal => self.metal,
-            Layer::Cut => self.cut,
-            Layer::Implant => self.implant,
-        }
-    }
-
     /// The square with this layer too.
     fn with(self, layer: Layer) -> Cover
         ensures { (other : Layer) → (covers other result ≡ true) ↔ ((covers other self ≡ true) ⊎ (layer ≡ other)) }
