@@ -7,6 +7,7 @@ use Rattle.std.specs.Prelude.{codes}
 use Rattle.std.specs.List.{AllByRecursion, prefix_len}
 use Rattle.std.specs.Option.{option_or}
 use Rattle.rx_text.specs.declared.pad_name.Role.{Role}
+use Rattle.rx_text.specs.declared.place.Place.TheVariants.{Text}
 use Rattle.switch_net.specs.ClockedLogic.{NamesBelow}
 use Rattle.switch_net.specs.Validity.{is_pad_outside, is_device_outside, first_outside, repeats, first_repeat, first_missing, first_fault, FaultlessIsNetwork}
 use Rattle.switch_net.specs.declared.network.Pad.{Pad}
@@ -16,8 +17,9 @@ use Rattle.switch_net.specs.declared.network.BadNetwork.{BadNetwork}
 use Rattle.switch_net.specs.declared.network.BadNetwork.TheVariants.{NetOutOfRange, DoublePad, MissingPad}
 use Rattle.net_text.specs.NetworkText.{IsNetworkText}
 use Rattle.net_text.specs.NetRefusals.{Writes, CircuitFault}
-use Rattle.net_text.specs.Steps.{IsRead, IsFaultOf}
+use Rattle.net_text.specs.Steps.{IsRead, fault_in_line, fault_of_pads}
 use Rattle.net_text.specs.declared.net_fault.NetFault.{NetFault}
+use Rattle.net_text.specs.declared.net_fault.NetCode.TheVariants.{N3, N4}
 
 -- where no element passes there is no first that does
 position_none : {X : Type 0} (p : X → Bool) (xs : List X) → AllByRecursion (λ x. p x ≡ false) xs → position p xs ≡ None
@@ -60,19 +62,6 @@ module _ (text : List ℕ) (nets : ℕ) (pads : List Pad) (devices : List Device
       by_parts None (Some role) h = let clash : NetOutOfRange at ≡ MissingPad role = cc in cc
       by_parts (Some n) m h = let clash : NetOutOfRange at ≡ DoublePad n = cc in cc
 
-  pub repeat_below : (bad : BadNetwork) → Some bad ≡ first_fault nets pads devices → (at : ℕ) → bad ≡ DoublePad at → at < length pads
-  repeat_below bad e at is = by_parts (first_repeat [] pads) (first_missing pads) refl (rw outside_none at (sym (ap (λ b. Some b) is) ∙ e))
-    where
-      by_parts : (r : Option ℕ) (m : Option Role) → first_repeat [] pads ≡ r
-          → Some (DoublePad at) ≡ option_or (option_map (λ at. DoublePad at) r) (option_map (λ role. MissingPad role) m) → at < length pads
-      by_parts None None f h = absurd (cc)
-      by_parts None (Some role) f h = let clash : DoublePad at ≡ MissingPad role = cc in absurd (cc)
-      by_parts (Some n) m f h =
-          let same : DoublePad at ≡ DoublePad n = cc in
-          let number : at ≡ n = cc in
-          let below = repeat_within [] pads n f in
-          omega (arith, below, number)
-
   -- how many pads and devices stand in the text
   pub few_lines : length pads + length devices + 6 ≤ length text
   few_lines =
@@ -87,13 +76,32 @@ module _ (text : List ℕ) (nets : ℕ) (pads : List Pad) (devices : List Device
     few_nets = read.parts.few_nets;
   }
 
-  -- a fault is named as it is
-  pub circuit_fault : (bad : BadNetwork) (last : ℕ) (fault : NetFault) → Some bad ≡ first_fault nets pads devices
-      → last ≡ length pads + length devices + 3 → IsFaultOf bad last fault
+  -- the fault of the pads is the circuit's
+  pub circuit_fault : (last : ℕ) (fault : NetFault) → Some fault ≡ fault_of_pads pads last → last ≡ length pads + length devices + 3
       → CircuitFault fault.code (record { nets = nets; pads = pads; devices = devices }) fault.place
-  circuit_fault (NetOutOfRange at) last fault e l h = absurd h
-  circuit_fault (DoublePad at) last fault e l h = rw h.0 (at, sym e, h.1)
-  circuit_fault (MissingPad role) last fault e l h = rw h.0 (role, sym e, rw l at h.1)
+  circuit_fault last fault e l = by_parts (first_repeat [] pads) (first_missing pads) refl refl e
+    where
+      by_parts : (r : Option ℕ) (m : Option Role) → first_repeat [] pads ≡ r → first_missing pads ≡ m
+          → Some fault ≡ option_or (option_map (λ at. fault_in_line N3 (at + 3)) r) (option_map (λ role. fault_in_line N4 last) m)
+          → CircuitFault fault.code (record { nets = nets; pads = pads; devices = devices }) fault.place
+      by_parts None None f g h = cc
+      by_parts (Some at) m f g h =
+          let is : fault ≡ fault_in_line N3 (at + 3) = cc in
+          rw is (at, rw (outside_none, f) refl, refl)
+      by_parts None (Some role) f g h =
+          let is : fault ≡ fault_in_line N4 last = cc in
+          rw is (role, rw (outside_none, f, g) refl, ap (λ line. Text line 1) l)
+
+  -- pads without a fault leave the circuit without one
+  pub faultless : (last : ℕ) → None ≡ fault_of_pads pads last → first_fault nets pads devices ≡ None
+  faultless last e = by_parts (first_repeat [] pads) (first_missing pads) refl refl e
+    where
+      by_parts : (r : Option ℕ) (m : Option Role) → first_repeat [] pads ≡ r → first_missing pads ≡ m
+          → None ≡ option_or (option_map (λ at. fault_in_line N3 (at + 3)) r) (option_map (λ role. fault_in_line N4 last) m)
+          → first_fault nets pads devices ≡ None
+      by_parts None None f g h = rw (outside_none, f, g) refl
+      by_parts (Some at) m f g h = cc
+      by_parts None (Some role) f g h = cc
 
   -- without a fault it is a network's
   pub is_network_text : FaultlessIsNetwork → None ≡ first_fault nets pads devices → IsNetworkText text (record { nets = nets; pads = pads; devices = devices })

@@ -1,11 +1,10 @@
 -- A refusal stands in a line of its text, or in the one behind the last.
-use Rattle.std.proofs.Common.{◌≡◌, ◌⊎◌, inl, inr, ℕ, suc, ◌+◌, ◌<◌, ◌≤◌, Bool, true, false, List, [], ◌∷◌, ◌++◌, Option, Some, None, option_map, count_by, flat_map, length, refl, sym, ap, ◌∙◌, arith}
+use Rattle.std.proofs.Common.{◌≡◌, inl, inr, ℕ, ◌+◌, ◌<◌, ◌≤◌, List, [], ◌∷◌, ◌++◌, Option, Some, None, option_map, flat_map, length, refl, ap, ◌∙◌, arith}
 use Rattle.std.proofs.lemmas.List.{length-append}
 use Rattle.std.proofs.lemmas.List.Sums.{count_by-le-length}
 use Rattle.std.specs.Prelude.{codes}
 use Rattle.std.specs.Option.{option_or}
-use Rattle.rx_text.specs.TextPlace.{is_line_feed, place_behind}
-use Rattle.rx_text.specs.declared.place.Place.{Place}
+use Rattle.rx_text.specs.TextPlace.{is_line_feed}
 use Rattle.rx_text.specs.declared.place.Place.TheVariants.{Text}
 use Rattle.rx_text.specs.declared.pad_name.Role.{Role}
 use Rattle.switch_net.specs.Circuit.{Circuit}
@@ -13,10 +12,9 @@ use Rattle.switch_net.specs.Validity.{first_outside, first_repeat, first_missing
 use Rattle.switch_net.specs.declared.network.Pad.{Pad}
 use Rattle.switch_net.specs.declared.network.Device.{Device}
 use Rattle.switch_net.specs.declared.network.Device.TheVariants.{Pass, Load}
-use Rattle.switch_net.specs.declared.network.BadNetwork.{BadNetwork}
 use Rattle.switch_net.specs.declared.network.BadNetwork.TheVariants.{NetOutOfRange, DoublePad, MissingPad}
 use Rattle.net_text.specs.NetworkText.{network_text, head_lines, pad_line, device_line, role_word, name_part, number_part}
-use Rattle.net_text.specs.NetRefusals.{CircuitFault, IsNoNetwork, NetRefusal, StandsFirst}
+use Rattle.net_text.specs.NetRefusals.{CircuitFault, NetRefusal}
 use Rattle.net_text.specs.declared.net_fault.NetCode.{NetCode}
 use Rattle.net_text.specs.declared.net_fault.NetCode.TheVariants.{N1, N2, N3, N4, N5, N6}
 use Rattle.net_text.proofs.CircuitFaults.{repeat_within}

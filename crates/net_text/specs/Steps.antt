@@ -1,6 +1,7 @@
 -- What a step of the reader read.
-use Rattle.std.specs.Prelude.{⊤, ◌≡◌, ℕ, ◌+◌, ◌<◌, ◌≤◌, Bool, true, false, List, [], ◌∷◌, ◌++◌, All, Option, Some, None, is_some, IfSome, length, take, codes}
+use Rattle.std.specs.Prelude.{⊤, ◌≡◌, ℕ, ◌+◌, ◌<◌, ◌≤◌, Bool, true, false, List, [], ◌∷◌, ◌++◌, All, Option, Some, None, is_some, option_map, IfSome, length, take, codes}
 use Rattle.std.specs.List.{flat_map}
+use Rattle.std.specs.Option.{option_or}
 use Rattle.rx_text.specs.Name.{is_name}
 use Rattle.rx_text.specs.Role.{NamedRole, bears_name}
 use Rattle.rx_text.specs.declared.pad_name.Role.{Role}
@@ -8,8 +9,8 @@ use Rattle.switch_net.specs.ClockedLogic.{NamesBelow}
 use Rattle.switch_net.specs.declared.network.Pad.{Pad}
 use Rattle.switch_net.specs.declared.network.Device.{Device}
 use Rattle.rx_text.specs.declared.place.Place.TheVariants.{Text}
-use Rattle.switch_net.specs.declared.network.BadNetwork.{BadNetwork}
-use Rattle.switch_net.specs.declared.network.BadNetwork.TheVariants.{NetOutOfRange, DoublePad, MissingPad}
+use Rattle.switch_net.specs.Validity.{first_repeat, first_missing}
+use Rattle.net_text.specs.declared.net_fault.NetCode.{NetCode}
 use Rattle.net_text.specs.declared.net_fault.NetCode.TheVariants.{N3, N4}
 use Rattle.net_text.specs.NetRefusals.{NoneStands}
 use Rattle.net_text.specs.Stages.{DueAt, LinesDue, IsFirst}
@@ -77,11 +78,15 @@ abbrev pub ReadLine : List ℕ → ℕ → List Pad → List Device → ℕ → 
 ReadLine text nets pads devices at None = IsRead text nets pads devices
 ReadLine text nets pads devices at (Some next) = ReadTo text nets pads devices next × (at < next)
 
--- the code and the place of a fault, where this is the last line
-abbrev pub IsFaultOf : BadNetwork → ℕ → NetFault → Type 0
-IsFaultOf (NetOutOfRange at) last fault = ⊥
-IsFaultOf (DoublePad at) last fault = (fault.code ≡ N3) × (fault.place ≡ Text (at + 3) 1)
-IsFaultOf (MissingPad role) last fault = (fault.code ≡ N4) × (fault.place ≡ Text last 1)
+-- a fault at the first byte of this line
+abbrev pub fault_in_line : NetCode → ℕ → NetFault
+fault_in_line code line = record { code = code; place = Text line 1 }
+
+-- the fault of pads whose nets are all in range, where this is the last line: the first that repeats another, else a missing role
+abbrev pub fault_of_pads : List Pad → ℕ → Option NetFault
+fault_of_pads pads last =
+    option_or (option_map (λ at. fault_in_line N3 (at + 3)) (first_repeat [] pads))
+    (option_map (λ role. fault_in_line N4 last) (first_missing pads))
 
 -- where reading stopped at a fault, it is the first in the text
 abbrev pub StopsFirst : List ℕ → Stop → Type 0

@@ -1,7 +1,9 @@
 // What can be wrong with a network text.
 
+ghost use Rattle.std.specs.Prelude.{◌≡◌};
+
 use rx_text::Place;
-use std::alloc::{AllocError, AllocFailed};
+use switch_net::NoMemory;
 use thiserror::Error;
 
 /// What is wrong with the text of a network.
@@ -37,4 +39,14 @@ pub enum ReadNetFault {
     /// An allocation was refused.
     #[error("no memory")]
     NoMemory,
+}
+
+impl From<NoMemory> for ReadNetFault {
+    ghost use Rattle.net_text.specs.declared.net_fault.ReadNetFault.TheVariants as fault;
+
+    ghost from_gives = { λ _ e. e ≡ fault.NoMemory };
+
+    fn from(_refused: NoMemory) -> ReadNetFault {
+        ReadNetFault::NoMemory
+    }
 }

@@ -6,10 +6,8 @@ ghost use Rattle.net_text.specs.NetworkText.{IsNamed, IsNetworkText};
 ghost use Rattle.net_text.specs.NetRefusals.{IsReadFault};
 ghost use Rattle.net_text.specs.Reading.{first_lines, later_lines, line_at, line_word, number_at};
 ghost use Rattle.net_text.specs.Stages.{PadNet, BehindRole, BehindPass, LinesDue, DueAt, EndsInSpace, IsFirst};
-ghost use Rattle.net_text.specs.Steps.{Reads, ReadsName, ReadsPad, ReadsDevice, ReadTo, ReadLine, IsRead, IsFaultOf, StopsFirst};
+ghost use Rattle.net_text.specs.Steps.{Reads, ReadsName, ReadsPad, ReadsDevice, ReadTo, ReadLine, IsRead, StopsFirst, fault_in_line, fault_of_pads};
 ghost use Rattle.rx_text.specs.declared.pad_name.Role.{Role};
-ghost use Rattle.switch_net.specs.declared.network.BadNetwork.TheVariants.{NetOutOfRange, DoublePad};
-ghost use Rattle.rx_text.specs.declared.place.Place.TheVariants.{Text};
 ghost use Rattle.net_text.specs.declared.line_kind.LineKind.TheVariants as kind;
 ghost use Rattle.net_text.specs.declared.net_fault.NetCode.TheVariants.{N2, N6};
 
@@ -20,7 +18,7 @@ use crate::words::{TextFault, behind_word, line_kind};
 use rx_text::{PadName, Place, Role, place_at};
 use std::alloc::{AllocFailed, Global};
 use switch_net::network::faultless_is_network;
-use switch_net::{BadNetwork, Device, Net, Network, Pad};
+use switch_net::{Device, Net, Network, NoMemory, Pad, first_double_pad, first_missing};
 
 /// The most nets that a text may have.
 const MOST_NETS: u32 = 16_777_216;
@@ -258,28 +256,26 @@ pub fn read_net(alloc: Global, text: &[u8]) -> Result<Network, ReadNetFault>
         }
     };
     let last = (parts.pads.len() + parts.devices.len() + 3) as u32;
-    match Network::new(parts.nets, parts.pads, parts.devices) {
-        Ok(network) => Ok(network),
-        Err(bad) => Err(ReadNetFault::Fault(fault_of(bad, last))),
+    if let Some(fault) = fault_of_pads(alloc, &parts.pads, last)? {
+        return Err(ReadNetFault::Fault(fault));
     }
+    Ok(Network::from_parts(parts.nets, parts.pads, parts.devices))
 }
 
-/// The fault of parts whose nets are all in range, where this is the last line.
-fn fault_of(bad: BadNetwork, last: u32) -> NetFault
-    requires in_range { (at : ℕ) → bad ≡ NetOutOfRange at → ⊥ }
-    requires few_pads { (at : ℕ) → bad ≡ DoublePad at → at + 3 < 2 ^ 32 }
-    ensures { IsFaultOf bad last result }
+/// The fault of these pads, whose nets are all in range, where this is the last line.
+fn fault_of_pads(alloc: Global, pads: &[Pad], last: u32) -> Result<Option<NetFault>, NoMemory>
+    requires pads_fit { length pads.now + 3 < 2 ^ 32 }
+    ensures { IfOk result (λ fault. fault ≡ fault_of_pads pads.now last) }
 {
-    match bad {
-        BadNetwork::DoublePad { at } => fault_in_line(NetCode::N3, at + 3),
-        BadNetwork::MissingPad { .. } => fault_in_line(NetCode::N4, last),
-        BadNetwork::NetOutOfRange { .. } => unreachable!(),
+    if let Some(at) = first_double_pad(alloc, pads)? {
+        return Ok(Some(fault_in_line(NetCode::N3, at + 3)));
     }
+    Ok(first_missing(pads).map(|_| fault_in_line(NetCode::N4, last)))
 }
 
 /// A fault at the first byte of this line.
 fn fault_in_line(code: NetCode, line: u32) -> NetFault
-    ensures { result ≡ record { code = code; place = Text line 1 } }
+    ensures { result ≡ fault_in_line code line }
 {
     NetFault {
         code,

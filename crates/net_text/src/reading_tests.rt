@@ -11,7 +11,11 @@ use std::test::Fail;
 const INVERTER: &[u8] =
     b"rxnet 1\nnets 7\nvdd 0\ngnd 1\nphi1 2\nphi2 3\nreset 4\nin x 5\nout z 6\npass 5 6 1\nload 6\nend\n";
 
-/// The lines of its head and its supplies, clocks and reset. Line 8 stands behind them.
+/// A network whose inputs and outputs have the same names.
+const SAME_NAMES: &[u8] =
+    b"rxnet 1\nnets 9\nvdd 0\ngnd 1\nphi1 2\nphi2 3\nreset 4\nin a 5\nin b 6\nout a 7\nout b 8\nend\n";
+
+/// The lines of the inverter's head and its supplies, clocks and reset. Line 8 stands behind them.
 const SUPPLIES: &[u8] = b"rxnet 1\nnets 7\nvdd 0\ngnd 1\nphi1 2\nphi2 3\nreset 4\n";
 
 /// The fault of a short text.
@@ -32,6 +36,16 @@ fn fault_behind(alloc: Global, lines: &[u8]) -> Result<NetFault, Fail> {
     fault_of(alloc, &text)
 }
 
+/// The text with these lines behind the supplies, and ten nets.
+fn wide_text(alloc: Global, lines: &[u8]) -> Result<Vec<u8>, Fail> {
+    let mut text = Vec::from_slice(
+        alloc,
+        b"rxnet 1\nnets 10\nvdd 0\ngnd 1\nphi1 2\nphi2 3\nreset 4\n",
+    )?;
+    text.extend_from_slice(lines)?;
+    Ok(text)
+}
+
 fn fault(code: NetCode, line: u32, column: u32) -> NetFault {
     NetFault {
         code,
@@ -48,6 +62,7 @@ fn reads_what_is_written(rt: HostRuntime) -> Result<(), Fail> {
     let mut sink = MemSink::new(rt.alloc(), 200, Vec::new(rt.alloc()), 200)?;
     assert_eq!(rt; write_net(&net, &mut sink), Ok(()));
     assert_eq!(rt; sink.held(), INVERTER);
+    assert_eq!(rt; read_net(rt.alloc(), SAME_NAMES)?.pads().len(), 9);
     Ok(())
 }
 
@@ -74,6 +89,22 @@ fn names_faults_of_pads_and_the_end(rt: HostRuntime) -> Result<(), Fail> {
             fault_behind(rt.alloc(), text)?,
             fault(*code, *line, *column)
         );
+    }
+    Ok(())
+}
+
+#[test]
+fn names_the_first_pad_that_repeats_another(rt: HostRuntime) -> Result<(), Fail> {
+    let table: [(&[u8], u32); 5] = [
+        (b"in a 5\nin b 6\nout a 7\nout b 8\nvdd 9\nend\n", 12),
+        (b"in a 5\nin b 6\nout a 7\nout b 8\nin c 0\nend\n", 12),
+        (b"in a 5\nin b 6\nout a 7\nin a 8\nout b 9\nend\n", 11),
+        (b"in a 5\nin b 5\nout b 6\nout b 7\nin c 0\nend\n", 9),
+        (b"vdd 0\nvdd 0\nend\n", 8),
+    ];
+    for (lines, line) in table.iter() {
+        let text = wide_text(rt.alloc(), lines)?;
+        assert_eq!(rt; fault_of(rt.alloc(), &text)?, fault(NetCode::N3, *line, 1));
     }
     Ok(())
 }

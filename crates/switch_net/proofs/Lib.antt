@@ -16,3 +16,5 @@ pub mod LogicLaws
 pub mod RegisterCircuit
 pub mod SureLevels
 pub mod ToldNets
+pub mod NameKeys
+pub mod SeenPads

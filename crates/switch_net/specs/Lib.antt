@@ -9,3 +9,5 @@ pub mod SettlingLaws
 pub mod SameNetworks
 pub mod Ternary
 pub mod TernaryLogic
+pub mod NameKeys
+pub mod SeenPads

@@ -1,16 +1,22 @@
 //! Switch networks of nMOS transistors: nets, pads, pass devices and loads.
 #![tactic(auto)]
 
+mod double_pad;
 pub mod examples;
+mod keys;
 pub mod laws;
 pub mod network;
+mod no_memory;
 pub mod same;
 pub mod settling;
 pub mod ternary;
 
+pub use double_pad::first_double_pad;
 pub use examples::{register_stores, small_circuits_settle};
+pub use keys::{NameKey, name_key};
 pub use laws::clocked_logic_settles;
-pub use network::{BadNetwork, Device, Level, Net, Network, Pad};
+pub use network::{BadNetwork, Device, Level, Net, Network, Pad, first_missing};
+pub use no_memory::NoMemory;
 pub use same::same_networks_agree;
 pub use settling::{runs_split, settled_values_keep_to_groups};
 pub use ternary::{ternary_levels_are_sure, told_nets_settle};

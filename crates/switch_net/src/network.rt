@@ -99,11 +99,20 @@ impl Network {
         if let Some(role) = first_missing(&pads) {
             return Err(BadNetwork::MissingPad { role });
         }
-        Ok(Network {
+        Ok(Network::from_parts(nets, pads, devices))
+    }
+
+    /// The network of these parts, which are one: every net that a part names is below `nets`, the pads' names and
+    /// nets are distinct, and Vdd, Gnd, Phi1, Phi2 and Reset have pads. Takes no memory.
+    pub fn from_parts(nets: u32, pads: Vec<Pad>, devices: Vec<Device>) -> Network
+        requires { IsNetwork (record { nets = nets; pads = pads.items; devices = devices.items }) }
+        ensures { result ≡ record { nets = nets; pads = pads.items; devices = devices.items } }
+    {
+        Network {
             nets,
             pads,
             devices,
-        })
+        }
     }
 
     /// The number of nets.
@@ -204,8 +213,8 @@ fn shares(one: Pad, other: Pad) -> bool
     one.name == other.name || one.net == other.net
 }
 
-/// The first of the roles that a network needs for which there is no pad.
-fn first_missing(pads: &[Pad]) -> Option<Role>
+/// The first of Vdd, Gnd, Phi1, Phi2 and Reset for which there is no pad.
+pub fn first_missing(pads: &[Pad]) -> Option<Role>
     ensures { result ≡ first_missing pads.now }
 {
     NEEDED.iter().copied().find(|role| !has_role(pads, *role))

@@ -1,21 +1,24 @@
-use Rattle.std.proofs.Common.{inr, arith}
-use Rattle.net_text.proofs.CircuitFaults.{in_range, repeat_below, few_lines, writes, circuit_fault}
+use Rattle.std.proofs.Common.{◌≡◌, ◌+◌, None, ◌∙◌, inr, ap, sym, arith, rules}
+use Rattle.net_text.specs.Steps.{fault_of_pads}
+use Rattle.net_text.proofs.CircuitFaults.{writes, circuit_fault, faultless}
 use Rattle.net_text.proofs.reading.read_net.Goals as goal
 
-pub fault_of-requires-clause-in_range : goal.fault_of-requires-clause-in_range
-fault_of-requires-clause-in_range c at is = in_range c.args.text.now _ _ _ c.in-Ok.ensures.read c.in-Err.bad c.in-Err.ensures.fault at is
-
-pub fault_of-requires-clause-few_pads : goal.fault_of-requires-clause-few_pads
-fault_of-requires-clause-few_pads c at is =
-    omega (arith, repeat_below c.args.text.now _ _ _ c.in-Ok.ensures.read c.in-Err.bad c.in-Err.ensures.fault at is, few_lines c.args.text.now _ _ _ c.in-Ok.ensures.read, c.requires)
-
-pub returns-in-Err-clause-fault : goal.returns-in-Err-clause-fault
-returns-in-Err-clause-fault c =
+pub returns-in-Some-clause-fault : goal.returns-in-Some-clause-fault
+returns-in-Some-clause-fault c =
+    let last = c.len.result + c.len-2.result + 3 in
+    let fault = sym c.in-Some.is ∙ c.in_ok-fault.ensures ∙ ap (λ pads. fault_of_pads pads last) c.deref.ensures.value in
     inr (record {
       clear = c.in-Ok.ensures.read.clear;
       circuit = _;
       writes = writes c.args.text.now _ _ _ c.in-Ok.ensures.read;
       fault =
-          circuit_fault c.args.text.now _ _ _ c.in-Ok.ensures.read c.in-Err.bad _ c.fault_of.result c.in-Err.ensures.fault
-          (omega (arith, c.len.ensures, c.len-2.ensures, c.in-Ok.parts.pads.ok.0, c.in-Ok.parts.devices.ok.0)) c.fault_of.ensures;
+          circuit_fault c.args.text.now _ _ _ c.in-Ok.ensures.read last c.in-Some.fault fault
+          (omega (arith, c.len.ensures, c.len-2.ensures, c.in-Ok.parts.pads.ok.0, c.in-Ok.parts.devices.ok.0));
     })
+
+pub from_parts-requires : goal.from_parts-requires
+from_parts-requires c =
+    let last = c.len.result + c.len-2.result + 3 in
+    let none : c.in_ok-fault.field-0 ≡ None = search rules in
+    let fault = sym none ∙ c.in_ok-fault.ensures ∙ ap (λ pads. fault_of_pads pads last) c.deref.ensures.value in
+    (c.faultless_is_network.ensures _).1 (faultless c.args.text.now _ _ _ c.in-Ok.ensures.read last fault)

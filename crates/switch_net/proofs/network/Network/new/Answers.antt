@@ -4,8 +4,8 @@ use Rattle.switch_net.specs.Validity.{first_outside, first_repeat, first_missing
 use Rattle.switch_net.proofs.Faultless.{faultless, no_fault}
 use Rattle.switch_net.proofs.network.Network.new.Goals as goal
 
-pub invariant_of-result : goal.invariant_of-result
-invariant_of-result c =
+pub from_parts-requires : goal.from_parts-requires
+from_parts-requires c =
     let circuit : Circuit = record { nets = c.args.nets; pads = c.args.pads.items; devices = c.args.devices.items } in
     let outside : first_outside circuit.nets circuit.pads circuit.devices ≡ None = search rules in
     let repeat : first_repeat [] circuit.pads ≡ None = search rules in
