@@ -1,5 +1,5 @@
 -- A sweep over all boxes of a layer, and then over a fence behind them.
-use Rattle.std.proofs.Common.{◌≡◌, ◌^◌, ℕ, ◌<◌, ◌≤◌, ◌+◌, ℤ, pos, neg_ℤ, ◌-ℤ◌, ◌≤ℤ◌, ◌<ℤ◌, List, [], ◌∷◌, ◌++◌, inl, inr, length, take, drop, get_or, refl, sym, ◌∙◌, arith, subst, None}
+use Rattle.std.proofs.Common.{◌≡◌, ◌^◌, ℕ, ◌<◌, ◌≤◌, ◌+◌, ℤ, pos, neg_ℤ, ◌-ℤ◌, ◌≤ℤ◌, ◌<ℤ◌, List, [], ◌∷◌, ◌++◌, inl, inr, length, take, drop, get_or, refl, sym, ◌∙◌, arith, subst}
 use Rattle.std.proofs.lemmas.Grind.{common_steps}
 use Rattle.std.proofs.lemmas.Int.{ints}
 use Rattle.geom.specs.declared.layer.Layer.{Layer}
@@ -8,7 +8,7 @@ use Rattle.geom.specs.declared.sweep.Sweep.{Sweep}
 use Rattle.geom.specs.Squares.{BoxShape, IsBox}
 use Rattle.geom.specs.Rows.{Squares, IsRun, IsPart, AreParts, Among, Over}
 use Rattle.geom.specs.Columns.{IsBefore, AreColumns}
-use Rattle.geom.specs.Profiles.{starts_of}
+use Rattle.geom.specs.RowTrees.{column_at}
 use Rattle.geom.specs.Sweeps.{IsStrip, IsLast, IsSwept, Passes, Passed, IsNext}
 use Rattle.geom.proofs.Lists.{among_right, append_nil, append_step, parted_at, taken_at, left_at}
 use Rattle.geom.proofs.Overs.{over_left, over_right, over_cases, OverBy, over_by}
@@ -39,7 +39,7 @@ begins_at (d ∷ ds) b back h c i = begins_at ds b back h.1 c i
 pub swept_less : (S D D' : Squares) (column column' : ℤ) (s : Sweep) → ((x y : ℤ) → D' x y → D x y) → column ≤ℤ column' → IsSwept S D column s → IsSwept S D' column' s
 swept_less S D D' column column' s less le h = record {
   rows = λ y.
-      let l : IsLast S D column (starts_of s.begins) (starts_of s.ends) s.runs.items y = h.rows y in
+      let l : IsLast S D column s.begins s.ends s.runs.items y = h.rows y in
       let near : l.from ≤ℤ column = l.near in
       record {
         from = l.from;
@@ -89,7 +89,7 @@ module _ (layer : Layer) (boxes : List BoxShape) (are_boxes : (b : BoxShape) →
       let l : x <ℤ o.box.x2 = o.inside.right in
       omega (arith, ints)
 
-  pub sweep_start : (s : Sweep) → s.layer ≡ layer → ((y : ℤ) → starts_of s.begins y ≡ None) → ((y : ℤ) → starts_of s.ends y ≡ None) → s.runs.items ≡ [] → SweptTo layer [] boxes s
+  pub sweep_start : (s : Sweep) → s.layer ≡ layer → ((y : ℤ) → column_at s.begins y ≡ neg_ℤ (pos (2 ^ 40))) → ((y : ℤ) → column_at s.ends y ≡ neg_ℤ (pos (2 ^ 40))) → s.runs.items ≡ [] → SweptTo layer [] boxes s
   sweep_start s e b t r = record {
     layer_is = e;
     column = neg_ℤ (pos (2 ^ 40));
@@ -99,8 +99,8 @@ module _ (layer : Layer) (boxes : List BoxShape) (are_boxes : (b : BoxShape) →
       rows = λ y. record {
         from = neg_ℤ (pos (2 ^ 40));
         to = neg_ℤ (pos (2 ^ 40));
-        begins_is = inr (refl, λ q h. b q);
-        ends_is = inr (refl, λ q h. t q);
+        begins_is = b y;
+        ends_is = t y;
         order = omega (arith, ints);
         near = omega (arith, ints);
         covered = λ x h k. absurd (omega (arith, ints));
@@ -147,7 +147,7 @@ module _ (layer : Layer) (boxes : List BoxShape) (are_boxes : (b : BoxShape) →
                   };
             };
         covers = λ x y o.
-            let l : IsLast (Over (fenced boxes layer)) (Passed boxes fence fence.top) fence.left (starts_of n.begins) (starts_of n.ends) n.runs.items y = end.rows y in
+            let l : IsLast (Over (fenced boxes layer)) (Passed boxes fence fence.top) fence.left n.begins n.ends n.runs.items y = end.rows y in
             let c : OverBy boxes x y = over_by boxes x y o in
             let b : IsBox c.box = are_boxes c.box c.among in
             let b1 : neg_ℤ (pos (2 ^ 40)) ≤ℤ c.box.y1 = b.upward.first in

@@ -3,7 +3,8 @@ pub mod TallRuns
 pub mod Canonical
 pub mod Lists
 pub mod Overs
-pub mod Profiles
+pub mod RowTrees
+pub mod Reaches
 pub mod Sweeps
 pub mod Fence
 pub mod Columns
@@ -11,3 +12,4 @@ pub mod Sorts
 pub mod Chosen
 pub mod Talls
 pub mod Layers
+pub mod Joins

@@ -1,19 +1,20 @@
 -- What a sweep knows of a row, after a run began or was made longer.
-use Rattle.std.proofs.Common.{◌≡◌, ◌^◌, ℕ, ◌<◌, ℤ, pos, negsuc, neg_ℤ, ◌+◌, ◌-ℤ◌, ◌≤ℤ◌, ◌<ℤ◌, List, [], ◌∷◌, ◌⊎◌, inl, inr, refl, ◌∙◌, arith, subst}
+use Rattle.std.proofs.Common.{◌≡◌, ◌^◌, ℕ, ◌<◌, ℤ, pos, negsuc, neg_ℤ, ◌+◌, ◌-ℤ◌, ◌≤ℤ◌, ◌<ℤ◌, List, [], ◌∷◌, ◌⊎◌, inl, inr, refl, sym, ◌∙◌, arith, subst}
 use Rattle.std.specs.Int.{int_max}
 use Rattle.std.proofs.Math.IntN.{nat_abs}
 use Rattle.std.proofs.lemmas.Int.{ints, by_lt_z, clamps}
 use Rattle.geom.specs.declared.layer.Layer.{Layer}
-use Rattle.geom.specs.declared.profile.Level.{Level}
+use Rattle.geom.specs.declared.reach.Level.{Level}
+use Rattle.geom.specs.declared.row_tree.RowTree.{RowTree}
 use Rattle.geom.specs.declared.sweep.Strip.{Strip}
 use Rattle.geom.specs.Squares.{BoxShape, IsBox}
 use Rattle.geom.specs.Rows.{Squares, IsRun, IsPart, Among, Over}
-use Rattle.geom.specs.Profiles.{Starts, HasNumber, IsLevel, Sets}
+use Rattle.geom.specs.RowTrees.{column_at}
+use Rattle.geom.specs.Reaches.{IsLevel, IsReached, Raises}
 use Rattle.geom.specs.declared.sweep.Sweep.{Sweep}
 use Rattle.geom.specs.Sweeps.{Passes, IsStrip, IsLast, Passed, IsNext, run_box, PutsAside}
 use Rattle.geom.proofs.Lists.{among_push}
 use Rattle.geom.proofs.Overs.{over_left, over_right}
-use Rattle.geom.proofs.Profiles.{one_number, on_level}
 
 over_aside : (layer : Layer) (row : ℤ) (first : Level) (to : ℤ) (m n : List BoxShape) (x y : ℤ) → PutsAside layer row first to m n → Over m x y → Over n x y
 over_aside layer row first to m n x y (inl p) h = rw p.1 (over_left m (run_box layer row first to ∷ []) x y h)
@@ -26,14 +27,14 @@ passed_before done strip row end x y (inl l) (inr h) = inr (h.0, l)
 passed_before done strip row end x y (inr l) (inr h) = let k : y <ℤ end = h.1 in absurd (omega (arith, ints))
 
 -- other rows have the last runs that they had
-last_kept : (S : Squares) (done m n : List BoxShape) (strip : Strip) (b b' e e' : Starts) (row end y : ℤ)
-    → ((w : ℤ) → HasNumber b y w → HasNumber b' y w) → ((w : ℤ) → HasNumber e y w → HasNumber e' y w) → ((x : ℤ) → Over m x y → Over n x y)
+last_kept : (S : Squares) (done m n : List BoxShape) (strip : Strip) (b b' e e' : RowTree) (row end y : ℤ)
+    → column_at b' y ≡ column_at b y → column_at e' y ≡ column_at e y → ((x : ℤ) → Over m x y → Over n x y)
     → (y <ℤ row) ⊎ (end ≤ℤ y) → IsLast S (Passed done strip row) strip.left b e m y → IsLast S (Passed done strip end) strip.left b' e' n y
 last_kept S done m n strip b b' e e' row end y begins ends more side l = record {
   from = l.from;
   to = l.to;
-  begins_is = begins l.from l.begins_is;
-  ends_is = ends l.to l.ends_is;
+  begins_is = begins ∙ l.begins_is;
+  ends_is = ends ∙ l.ends_is;
   order = l.order;
   near = l.near;
   covered = l.covered;
@@ -46,7 +47,7 @@ in_rows : (P : ℤ → Type 0) (row end y : ℤ) → ((y <ℤ row) ⊎ (end ≤�
 in_rows P row end y outside inside = by_lt_z y row (λ l. outside (inl l)) (λ l. by_lt_z y end (λ k. inside l k) (λ k. outside (inr k)))
 
 -- A run begins in the rows of both levels, behind a gap.
-module _ (boxes done m n : List BoxShape) (layer : Layer) (strip : Strip) (row : ℤ) (first last : Level) (b b' e e' : Starts)
+module _ (boxes done m n : List BoxShape) (layer : Layer) (strip : Strip) (row : ℤ) (first last : Level) (b b' e e' : RowTree)
     (is_strip : IsStrip strip) (from : strip.bottom ≤ℤ row) (to : last.end ≤ℤ strip.top) (within : first.end ≤ℤ last.end)
     (lb : IsLevel b row first) (le : IsLevel e row last) (gap : last.value <ℤ strip.left)
     (aside : PutsAside layer row first last.value m n) (next : IsNext boxes done strip)
@@ -56,10 +57,10 @@ module _ (boxes done m n : List BoxShape) (layer : Layer) (strip : Strip) (row :
     part = run_box layer row first last.value
 
     from_is : (y : ℤ) → row ≤ℤ y → y <ℤ first.end → (rows y).from ≡ first.value
-    from_is y h k = one_number b y (rows y).from first.value (rows y).begins_is (on_level b row first y lb h k)
+    from_is y h k = sym (rows y).begins_is ∙ lb.alike y h k
 
     to_is : (y : ℤ) → row ≤ℤ y → y <ℤ first.end → (rows y).to ≡ last.value
-    to_is y h k = one_number e y (rows y).to last.value (rows y).ends_is (on_level e row last y le h (omega (arith, ints)))
+    to_is y h k = sym (rows y).ends_is ∙ le.alike y h (omega (arith, ints))
 
     run_put : (y : ℤ) → row ≤ℤ y → y <ℤ first.end → IsRun (Over boxes) y first.value last.value
     run_put y h k =
@@ -91,18 +92,23 @@ module _ (boxes done m n : List BoxShape) (layer : Layer) (strip : Strip) (row :
       | inr p ↦ absurd (p.0 (is_box (omega (arith, ints))))
     ]
 
-    begun_row : Sets b row first.end strip.left b' → Sets e row first.end strip.right e' → (y : ℤ) → row ≤ℤ y → y <ℤ first.end
+    begun_row : Raises b row first.end strip.left b' → Raises e row first.end strip.right e' → (y : ℤ) → row ≤ℤ y → y <ℤ first.end
         → IsLast (Over boxes) (Passed done strip first.end) strip.left b' e' n y
     begun_row sb se y h k =
         let l : IsLast (Over boxes) (Passed done strip row) strip.left b e m y = rows y in
         let f : l.from ≡ first.value = from_is y h k in
         let t : l.to ≡ last.value = to_is y h k in
         let order : strip.left ≤ℤ strip.right = is_strip.order in
+        let near : l.from ≤ℤ strip.left = l.near in
+        let bv : column_at b y ≡ first.value = lb.alike y h k in
+        let ev : column_at e y ≡ last.value = le.alike y h (omega (arith, ints)) in
+        let bn : column_at b' y ≡ int_max (column_at b y) strip.left = sb.inside y h k in
+        let en : column_at e' y ≡ int_max (column_at e y) strip.right = se.inside y h k in
         record {
           from = strip.left;
           to = strip.right;
-          begins_is = sb.inside y h k;
-          ends_is = se.inside y h k;
+          begins_is = omega (arith, ints, clamps);
+          ends_is = omega (arith, ints, clamps);
           order = order;
           near = omega (arith, ints);
           covered = λ x a c. next.inside x y (record { left = a; right = c; bottom = omega (arith, ints); top = omega (arith, ints) });
@@ -122,10 +128,10 @@ module _ (boxes done m n : List BoxShape) (layer : Layer) (strip : Strip) (row :
           ];
         }
 
-    pub begun_rows : Sets b row first.end strip.left b' → Sets e row first.end strip.right e' → (y : ℤ) → IsLast (Over boxes) (Passed done strip first.end) strip.left b' e' n y
+    pub begun_rows : Raises b row first.end strip.left b' → Raises e row first.end strip.right e' → (y : ℤ) → IsLast (Over boxes) (Passed done strip first.end) strip.left b' e' n y
     begun_rows sb se y =
         in_rows (λ z. IsLast (Over boxes) (Passed done strip first.end) strip.left b' e' n z) row first.end y
-        (λ side. last_kept (Over boxes) done m n strip b b' e e' row first.end y (λ w h. sb.outside y w side h) (λ w h. se.outside y w side h)
+        (λ side. last_kept (Over boxes) done m n strip b b' e e' row first.end y (sb.outside y side) (se.outside y side)
         (λ x o. over_aside layer row first last.value m n x y aside o) side (rows y))
         (λ h k. begun_row sb se y h k)
 
@@ -142,28 +148,30 @@ module _ (boxes done m n : List BoxShape) (layer : Layer) (strip : Strip) (row :
       | inr p ↦ let A : List BoxShape → Type 0 = λ l. Among l d in parts d (subst A p.1 i)
     ]
 
--- The last runs of the level's rows, which the strip meets, reach at least as far as the strip.
-module _ (boxes done m : List BoxShape) (strip : Strip) (row : ℤ) (last : Level) (b e e' : Starts) (to : ℤ)
-    (is_strip : IsStrip strip) (from : strip.bottom ≤ℤ row) (below : last.end ≤ℤ strip.top)
-    (le : IsLevel e row last) (met : strip.left ≤ℤ last.value) (next : IsNext boxes done strip)
-    (grown : (to ≡ int_max last.value strip.right))
+-- The last runs of the rows that the strip meets reach at least as far as the strip.
+module _ (boxes done m : List BoxShape) (strip : Strip) (row end : ℤ) (b e e' : RowTree)
+    (is_strip : IsStrip strip) (from : strip.bottom ≤ℤ row) (met : IsReached e strip.left row strip.top end) (next : IsNext boxes done strip)
+    (longer : Raises e row end strip.right e')
     (rows : (y : ℤ) → IsLast (Over boxes) (Passed done strip row) strip.left b e m y)
   where
-    longer_row : (y : ℤ) → HasNumber e' y to → row ≤ℤ y → y <ℤ last.end → IsLast (Over boxes) (Passed done strip last.end) strip.left b e' m y
-    longer_row y set h k =
+    longer_row : (y : ℤ) → row ≤ℤ y → y <ℤ end → IsLast (Over boxes) (Passed done strip end) strip.left b e' m y
+    longer_row y h k =
         let l : IsLast (Over boxes) (Passed done strip row) strip.left b e m y = rows y in
-        let t : l.to ≡ last.value = one_number e y l.to last.value l.ends_is (on_level e row last y le h k) in
+        let t : column_at e y ≡ l.to = l.ends_is in
+        let n : column_at e' y ≡ int_max (column_at e y) strip.right = longer.inside y h k in
+        let reached : strip.left ≤ℤ column_at e y = met.reached y h k in
+        let within : end ≤ℤ strip.top = met.within in
         let order : l.from ≤ℤ l.to = l.order in
         let near : l.from ≤ℤ strip.left = l.near in
         record {
           from = l.from;
-          to = to;
+          to = int_max l.to strip.right;
           begins_is = l.begins_is;
-          ends_is = set;
+          ends_is = omega (arith, ints, clamps);
           order = omega (arith, ints, clamps);
           near = near;
-          covered = λ x a c. by_lt_z x last.value
-              (λ z. l.covered x a (omega (arith, ints)))
+          covered = λ x a c. by_lt_z x l.to
+              (λ z. l.covered x a z)
               (λ z. next.inside x y (record { left = omega (arith, ints); right = omega (arith, ints, clamps); bottom = omega (arith, ints); top = omega (arith, ints) }));
           left = l.left;
           reach = λ x d. elim d [
@@ -176,14 +184,11 @@ module _ (boxes done m : List BoxShape) (strip : Strip) (row : ℤ) (last : Leve
           ];
         }
 
-    pub longer_rows : Sets e row last.end to e' → (y : ℤ) → IsLast (Over boxes) (Passed done strip last.end) strip.left b e' m y
-    longer_rows set y =
-        in_rows (λ z. IsLast (Over boxes) (Passed done strip last.end) strip.left b e' m z) row last.end y
-        (λ side. last_kept (Over boxes) done m m strip b b e e' row last.end y (λ w h. h) (λ w h. set.outside y w side h) (λ x o. o) side (rows y))
-        (λ h k. longer_row y (set.inside y h k) h k)
-
-pub shorter_level : (e : Starts) (row end : ℤ) (last : Level) → IsLevel e row last → row <ℤ end → end ≤ℤ last.end → IsLevel e row (record { value = last.value; end = end })
-shorter_level e row end last l later within = record { number = l.number; later = later; alike = λ q a c. l.alike q a (omega (arith, ints)) }
+    pub longer_rows : (y : ℤ) → IsLast (Over boxes) (Passed done strip end) strip.left b e' m y
+    longer_rows y =
+        in_rows (λ z. IsLast (Over boxes) (Passed done strip end) strip.left b e' m z) row end y
+        (λ side. last_kept (Over boxes) done m m strip b b e e' row end y refl (longer.outside y side) (λ x o. o) side (rows y))
+        (λ h k. longer_row y h k)
 
 -- the strip was passed up to the row
 pub record PassedTo (s : Sweep) (strip : Strip) (row : ℤ) (n : Sweep) : Type 0 where

@@ -5,6 +5,8 @@ pub mod Merged
 pub mod Rows
 pub mod Wholes
 pub mod Columns
-pub mod Profiles
+pub mod Spans
+pub mod RowTrees
+pub mod Reaches
 pub mod Sweeps
 pub mod Conduction

@@ -1,12 +1,13 @@
 -- What a sweep over boxes from left to right knows of each row.
 use Rattle.std.specs.Prelude.{◌≡◌, ◌^◌, ℤ, pos, neg_ℤ, ◌-ℤ◌, ◌≤ℤ◌, ◌<ℤ◌, List, [], ◌∷◌, ◌++◌, ◌⊎◌, ◌+◌}
 use Rattle.geom.specs.declared.layer.Layer.{Layer}
-use Rattle.geom.specs.declared.profile.Level.{Level}
+use Rattle.geom.specs.declared.reach.Level.{Level}
+use Rattle.geom.specs.declared.row_tree.RowTree.{RowTree}
 use Rattle.geom.specs.declared.sweep.Strip.{Strip}
 use Rattle.geom.specs.declared.sweep.Sweep.{Sweep}
 use Rattle.geom.specs.Squares.{BoxShape, IsSide, IsBox}
 use Rattle.geom.specs.Rows.{Squares, Among, Over, IsPart}
-use Rattle.geom.specs.Profiles.{Starts, starts_of, HasNumber}
+use Rattle.geom.specs.RowTrees.{column_at}
 
 -- The square (x, y) lies in the strip.
 pub record InStrip (strip : Strip) (x y : ℤ) : Type 0 where
@@ -23,11 +24,11 @@ pub record IsStrip (strip : Strip) : Type 0 where
 
 -- The row's last run of the squares D that were passed; those before it are in the boxes m. Where nothing was passed,
 -- the last run is empty.
-pub record IsLast (S D : Squares) (column : ℤ) (begins ends : Starts) (m : List BoxShape) (y : ℤ) : Type 0 where
+pub record IsLast (S D : Squares) (column : ℤ) (begins ends : RowTree) (m : List BoxShape) (y : ℤ) : Type 0 where
   pub from : ℤ
   pub to : ℤ
-  pub begins_is : HasNumber begins y from
-  pub ends_is : HasNumber ends y to
+  pub begins_is : column_at begins y ≡ from
+  pub ends_is : column_at ends y ≡ to
   pub order : from ≤ℤ to
   pub near : from ≤ℤ column
   pub covered : (x : ℤ) → from ≤ℤ x → x <ℤ to → S x y
@@ -37,7 +38,7 @@ pub record IsLast (S D : Squares) (column : ℤ) (begins ends : Starts) (m : Lis
 
 -- The squares D of S were passed, and no last run begins to the right of the column.
 pub record IsSwept (S D : Squares) (column : ℤ) (s : Sweep) : Type 0 where
-  pub rows : (y : ℤ) → IsLast S D column (starts_of s.begins) (starts_of s.ends) s.runs.items y
+  pub rows : (y : ℤ) → IsLast S D column s.begins s.ends s.runs.items y
   pub parts : (b : BoxShape) → Among s.runs.items b → IsPart S s.layer b
 
 -- the squares of the boxes, and those of the strip in the rows below this one

@@ -8,7 +8,9 @@ pub mod merging;
 pub mod no_memory;
 pub mod orient;
 pub mod placing;
-mod profile;
+mod reach;
+mod row_tree;
+mod span;
 mod stacking;
 mod sweep;
 #[cfg(test)]

@@ -4,13 +4,14 @@ ghost use Rattle.std.specs.Prelude.{◌≡◌, ◌<ℤ◌, ◌≤ℤ◌, ℤ, If
 ghost use Rattle.geom.specs.Squares.{BoxShape, IsBox};
 ghost use Rattle.geom.specs.Rows.{Among, AreParts, Over};
 ghost use Rattle.geom.specs.Columns.{AreColumns};
-ghost use Rattle.geom.specs.Profiles.{IsLevel, starts_of};
+ghost use Rattle.geom.specs.RowTrees.{column_at};
+ghost use Rattle.geom.specs.Reaches.{IsLevel};
 ghost use Rattle.geom.specs.Sweeps.{IsStrip, Passes, PutsAside};
 
 use crate::layer::Layer;
 use crate::layer_box::{Box2, FARTHEST_EDGE};
 use crate::no_memory::NoMemory;
-use crate::profile::{LOWEST_EDGE, Level, Profile};
+use crate::reach::{LOWEST_EDGE, Level, Reach};
 use std::alloc::Global;
 
 /// Columns from `left` up to `right`, in the rows from `bottom` up to `top`.
@@ -30,12 +31,13 @@ const FENCE: Strip = Strip {
     top: FARTHEST_EDGE,
 };
 
-/// The last run of each row so far, by the columns at which it begins and ends, and boxes of the runs before it.
+/// The last run of each row so far, by the columns at which it begins and ends, and boxes of the runs before it. Both
+/// columns only grow.
 #[derive(Drop)]
 pub struct Sweep {
     layer: Layer,
-    begins: Profile,
-    ends: Profile,
+    begins: Reach,
+    ends: Reach,
     runs: Vec<Box2>,
 }
 
@@ -66,7 +68,7 @@ impl Sweep {
         if last.value < strip.left {
             self.begin_run(strip, row, last)
         } else {
-            self.lengthen(strip, row, last)
+            self.lengthen(strip, row)
         }
     }
 
@@ -75,7 +77,7 @@ impl Sweep {
         requires strip { IsStrip strip }
         requires from { strip.bottom ≤ℤ row }
         requires to { last.end ≤ℤ strip.top }
-        requires level { IsLevel (starts_of self.old.ends) row last }
+        requires level { IsLevel self.old.ends row last }
         requires apart { last.value <ℤ strip.left }
         ensures layer { self.new.layer ≡ self.old.layer }
         ensures within { IfOk result (λ next. (row <ℤ next) × (next ≤ℤ strip.top)) }
@@ -83,8 +85,8 @@ impl Sweep {
     {
         let first = self.begins.level(row, last.end);
         self.put_aside(row, first, last.value)?;
-        self.begins.set(row, first, strip.left)?;
-        self.ends.set(row, shorter(last, first.end), strip.right)?;
+        self.begins.raise(row, first.end, strip.left)?;
+        self.ends.raise(row, first.end, strip.right)?;
         Ok(first.end)
     }
 
@@ -103,29 +105,20 @@ impl Sweep {
         Ok(())
     }
 
-    /// Makes the last run of the level's rows longer, where the strip ends further right.
-    fn lengthen(&mut self, strip: Strip, row: i64, last: Level) -> Result<i64, NoMemory>
+    /// Makes the last runs of the rows that the strip meets, from this row up to the one that is answered, as long as the
+    /// strip.
+    fn lengthen(&mut self, strip: Strip, row: i64) -> Result<i64, NoMemory>
         requires strip { IsStrip strip }
         requires from { strip.bottom ≤ℤ row }
-        requires to { last.end ≤ℤ strip.top }
-        requires level { IsLevel (starts_of self.old.ends) row last }
-        requires met { strip.left ≤ℤ last.value }
+        requires below { row <ℤ strip.top }
+        requires met { strip.left ≤ℤ column_at self.old.ends row }
         ensures layer { self.new.layer ≡ self.old.layer }
         ensures within { IfOk result (λ next. (row <ℤ next) × (next ≤ℤ strip.top)) }
         ensures passed { IfOk result (λ next. Passes self.old strip row next self.new) }
     {
-        self.ends.raise(row, last, strip.right)?;
-        Ok(last.end)
-    }
-}
-
-/// The level up to another row.
-fn shorter(level: Level, end: i64) -> Level
-    ensures { result ≡ record { value = level.value; end = end } }
-{
-    Level {
-        value: level.value,
-        end,
+        let end = self.ends.reached(strip.left, row, strip.top);
+        self.ends.raise(row, end, strip.right)?;
+        Ok(end)
     }
 }
 
@@ -147,10 +140,11 @@ pub fn row_runs(alloc: Global, boxes: &[Box2], layer: Layer) -> Result<Vec<Box2>
     requires columns { AreColumns boxes.now }
     ensures { IfOk result (λ runs. AreParts (Over boxes.now) layer runs.items) }
 {
+    let edges = row_edges(alloc, boxes)?;
     let mut sweep = Sweep {
         layer,
-        begins: Profile::new(alloc),
-        ends: Profile::new(alloc),
+        begins: Reach::new(alloc, &edges)?,
+        ends: Reach::new(alloc, &edges)?,
         runs: Vec::new(alloc),
     };
     for b in boxes {
@@ -158,4 +152,16 @@ pub fn row_runs(alloc: Global, boxes: &[Box2], layer: Layer) -> Result<Vec<Box2>
     }
     sweep.pass(FENCE)?;
     Ok(sweep.runs)
+}
+
+/// The lower and upper edges of the boxes, in order, each once.
+fn row_edges(alloc: Global, boxes: &[Box2]) -> Result<Vec<i64>, NoMemory> {
+    let mut edges = Vec::new(alloc);
+    for b in boxes {
+        edges.push(b.y1)?;
+        edges.push(b.y2)?;
+    }
+    edges.sort()?;
+    edges.dedup();
+    Ok(edges)
 }

@@ -166,6 +166,58 @@ fn keeps_holes_corners_and_gaps(rt: HostRuntime) -> Result<(), Fail> {
 }
 
 #[test]
+fn merges_tall_boxes_over_ragged_rows(rt: HostRuntime) -> Result<(), Fail> {
+    let ragged = [
+        metal(0, 0, 9, 1),
+        metal(0, 1, 6, 2),
+        metal(0, 2, 7, 3),
+        metal(0, 3, 9, 4),
+    ];
+    let hidden = [
+        metal(0, 0, 9, 1),
+        metal(0, 1, 6, 2),
+        metal(0, 2, 7, 3),
+        metal(0, 3, 9, 4),
+        metal(1, 0, 3, 4),
+        metal(2, 1, 6, 3),
+        metal(4, 0, 5, 4),
+    ];
+    assert!(rt; merge_into(rt.alloc(), &hidden, &ragged)?);
+    let longer = [
+        metal(0, 0, 9, 1),
+        metal(0, 1, 6, 2),
+        metal(0, 2, 7, 3),
+        metal(0, 3, 9, 4),
+        metal(1, 0, 3, 4),
+        metal(5, 0, 8, 4),
+    ];
+    let runs = [metal(0, 0, 9, 1), metal(0, 1, 8, 3), metal(0, 3, 9, 4)];
+    assert!(rt; merge_into(rt.alloc(), &longer, &runs)?);
+    Ok(())
+}
+
+#[test]
+fn merges_tall_boxes_between_longer_rows(rt: HostRuntime) -> Result<(), Fail> {
+    let drawn = [
+        metal(0, 0, 9, 1),
+        metal(0, 2, 9, 3),
+        metal(1, 0, 3, 4),
+        metal(2, 0, 4, 4),
+        metal(3, 0, 5, 4),
+        metal(11, 0, 12, 4),
+    ];
+    let runs = [
+        metal(0, 0, 9, 1),
+        metal(11, 0, 12, 4),
+        metal(1, 1, 5, 2),
+        metal(0, 2, 9, 3),
+        metal(1, 3, 5, 4),
+    ];
+    assert!(rt; merge_into(rt.alloc(), &drawn, &runs)?);
+    Ok(())
+}
+
+#[test]
 fn merges_each_layer_within_reach(rt: HostRuntime) -> Result<(), Fail> {
     let far = 1099511627776;
     let plane = metal(-far, -far, far, far);

@@ -7,8 +7,8 @@ use Rattle.geom.proofs.sweep.row_runs.Goals as goal
 
 pub loop-b-init : goal.loop-b-init
 loop-b-init c = sweep_start c.args.layer c.args.boxes.now c.requires.boxes
-    (record { layer = c.args.layer; begins = c.new.result; ends = c.new-2.result; runs = c.new-3.result })
-    refl c.new.ensures c.new-2.ensures c.new-3.ensures.items
+    (record { layer = c.args.layer; begins = c.in_ok-new.field-0; ends = c.in_ok-new-2.field-0; runs = c.new-3.result })
+    refl c.in_ok-new.ensures c.in_ok-new-2.ensures c.new-3.ensures.items
 
 pub pass-requires : goal.pass-requires
 pass-requires c = rw c.strip_of.ensures
