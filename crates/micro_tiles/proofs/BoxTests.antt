@@ -10,21 +10,13 @@ use Rattle.geom.specs.declared.layer.Layer.TheVariants.{Diffusion, Poly, Metal, 
 use Rattle.geom.specs.Squares.{BoxShape, Inside, Covered}
 use Rattle.geom.specs.Rows.{Among}
 use Rattle.micro_tiles.specs.Boxes.{IsInTile}
+use Rattle.micro_tiles.specs.Sides.{same}
 
 pub le_true : (a b : ℤ) → int_le a b ≡ true → a ≤ℤ b
 le_true a b e = le_z_yes (T_from_true (int_le a b) e)
 
 pub lt_true : (a b : ℤ) → int_lt a b ≡ true → a <ℤ b
 lt_true a b e = lt_z_yes (T_from_true (int_lt a b) e)
-
--- two layers are one
-abbrev pub same : Layer → Layer → Bool
-same Diffusion Diffusion = true
-same Poly Poly = true
-same Metal Metal = true
-same Cut Cut = true
-same Implant Implant = true
-same _ _ = false
 
 pub same_self : (a b : Layer) → a ≡ b → same a b ≡ true
 same_self a b e = rw e (self b)

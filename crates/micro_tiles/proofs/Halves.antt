@@ -9,11 +9,13 @@ use Rattle.micro_tiles.specs.declared.device.Mode.{Mode}
 use Rattle.micro_tiles.specs.declared.device.Mode.TheVariants.{Enhancement, Depletion}
 use Rattle.micro_tiles.specs.declared.device.Transistor.{Transistor}
 use Rattle.geom.specs.Conduction.{ShareSide, Conducts, Leads}
+use Rattle.geom.proofs.Joins.{share_back}
 use Rattle.micro_tiles.specs.Nets.{in_first_half}
 use Rattle.micro_tiles.specs.Table.{is_transpose, design_of, boxes, transistor_at}
 use Rattle.micro_tiles.proofs.BoxTests.{each, some, holds, avoids, filled, clear, enclosed}
-use Rattle.micro_tiles.proofs.Paths.{share_back, through}
-use Rattle.micro_tiles.proofs.RegionFacts.{region, le_is, le_not, lt_is, lt_not, passed, whole}
+use Rattle.micro_tiles.proofs.Paths.{through}
+use Rattle.micro_tiles.specs.Regions.{channel_box}
+use Rattle.micro_tiles.proofs.RegionFacts.{le_is, le_not, lt_is, lt_not, passed, whole}
 
 -- all squares as far across as the channel
 abbrev column : Bool → BoxShape → BoxShape
@@ -38,7 +40,7 @@ abbrev Middle : Bool → BoxShape → Type 0
 Middle false r = IsMiddle r.y1 r.y2
 Middle true r = IsMiddle r.x1 r.x2
 
-middle : (mode : Mode) (transpose : Bool) → Middle transpose (region mode transpose)
+middle : (mode : Mode) (transpose : Bool) → Middle transpose (channel_box mode transpose)
 middle Enhancement false = record { low = omega (arith, ints); high = omega (arith, ints) }
 middle Enhancement true = record { low = omega (arith, ints); high = omega (arith, ints) }
 middle Depletion false = record { low = omega (arith, ints); high = omega (arith, ints) }
@@ -89,7 +91,7 @@ parts_pass bs transpose r = each Diffusion (λ b. holds b (column transpose r)) 
 
 abbrev passes_if : List BoxShape → Bool → Option Transistor → Bool
 passes_if bs transpose None = true
-passes_if bs transpose (Some t) = parts_pass bs transpose (region t.mode transpose)
+passes_if bs transpose (Some t) = parts_pass bs transpose (channel_box t.mode transpose)
 
 all_pass : each_tile (λ tile. passes_if (boxes tile) (is_transpose tile) (transistor_at tile)) ≡ true
 unfolding each_tile boxes design_of
@@ -115,22 +117,22 @@ parts_of bs transpose r h =
 -- ---- a tile with a transistor
 
 module _ (tile : ℕ) (t : Transistor) (below : tile < 55) (is : transistor_at tile ≡ Some t) where
-  parts : Parts (boxes tile) (is_transpose tile) (region t.mode (is_transpose tile))
-  parts = parts_of (boxes tile) (is_transpose tile) (region t.mode (is_transpose tile))
+  parts : Parts (boxes tile) (is_transpose tile) (channel_box t.mode (is_transpose tile))
+  parts = parts_of (boxes tile) (is_transpose tile) (channel_box t.mode (is_transpose tile))
       (subst (λ (o : Option Transistor). passes_if (boxes tile) (is_transpose tile) o ≡ true) is
       (at_tile _ tile all_pass below))
 
-  half : (x y : ℤ) → Conducts (Covered (boxes tile)) Diffusion x y → Half (is_transpose tile) (region t.mode (is_transpose tile)) x y
+  half : (x y : ℤ) → Conducts (Covered (boxes tile)) Diffusion x y → Half (is_transpose tile) (channel_box t.mode (is_transpose tile)) x y
   half x y c =
       let w = whole tile t (passed tile t below is) in
-      halved (is_transpose tile) (region t.mode (is_transpose tile)) x y (middle t.mode (is_transpose tile))
-      (enclosed Diffusion (boxes tile) (column (is_transpose tile) (region t.mode (is_transpose tile))) parts.column x y c.0)
+      halved (is_transpose tile) (channel_box t.mode (is_transpose tile)) x y (middle t.mode (is_transpose tile))
+      (enclosed Diffusion (boxes tile) (column (is_transpose tile) (channel_box t.mode (is_transpose tile))) parts.column x y c.0)
       (λ i. c.1 ((w.channel x y).1 i).poly)
 
   -- Conducting diffusion squares that share a side lie in one half.
   pub diffusion_step : (x y u v : ℤ) → Conducts (Covered (boxes tile)) Diffusion x y → Conducts (Covered (boxes tile)) Diffusion u v → ShareSide x y u v
       → in_first_half (is_transpose tile) x y ≡ in_first_half (is_transpose tile) u v
-  diffusion_step x y u v c d side = one_half (is_transpose tile) (region t.mode (is_transpose tile)) x y u v (middle t.mode (is_transpose tile)) (half x y c) (half u v d) side
+  diffusion_step x y u v c d side = one_half (is_transpose tile) (channel_box t.mode (is_transpose tile)) x y u v (middle t.mode (is_transpose tile)) (half x y c) (half u v d) side
 
   -- Conducting diffusion squares of one half are joined.
   pub diffusion_path : (x y u v : ℤ) → Conducts (Covered (boxes tile)) Diffusion x y → Conducts (Covered (boxes tile)) Diffusion u v
@@ -138,11 +140,11 @@ module _ (tile : ℕ) (t : Transistor) (below : tile < 55) (is : transistor_at t
       → Leads (λ s w. Conducts (Covered (boxes tile)) Diffusion s w) x y u v
   diffusion_path x y u v c d e = elim (half x y c) [
     | inl first ↦ elim (half u v d) [
-      | inl too ↦ through (λ s w. Conducts (Covered (boxes tile)) Diffusion s w) (first_part (is_transpose tile) (region t.mode (is_transpose tile))) parts.first x y u v first.1 too.1
+      | inl too ↦ through (λ s w. Conducts (Covered (boxes tile)) Diffusion s w) (first_part (is_transpose tile) (channel_box t.mode (is_transpose tile))) parts.first x y u v first.1 too.1
       | inr second ↦ let clash = sym first.0 ∙ e ∙ second.0 in cc
     ]
     | inr second ↦ elim (half u v d) [
       | inl first ↦ let clash = sym first.0 ∙ sym e ∙ second.0 in cc
-      | inr too ↦ through (λ s w. Conducts (Covered (boxes tile)) Diffusion s w) (second_part (is_transpose tile) (region t.mode (is_transpose tile))) parts.second x y u v second.1 too.1
+      | inr too ↦ through (λ s w. Conducts (Covered (boxes tile)) Diffusion s w) (second_part (is_transpose tile) (channel_box t.mode (is_transpose tile))) parts.second x y u v second.1 too.1
     ]
   ]

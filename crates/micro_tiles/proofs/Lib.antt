@@ -15,3 +15,4 @@ pub mod NetFacts
 pub mod PortFacts
 pub mod SideFacts
 pub mod SmallDrawings
+pub mod CoverTests

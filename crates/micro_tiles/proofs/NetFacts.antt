@@ -14,6 +14,7 @@ use Rattle.micro_tiles.specs.Boxes.{cut}
 use Rattle.geom.specs.Conduction.{ShareSide, Leads, Spot, Conducts, IsJoin, Joined}
 use Rattle.geom.specs.Conduction.Joined.{here, step}
 use Rattle.geom.specs.Conduction.Leads.{here, step}
+use Rattle.geom.proofs.Joins.{chain}
 use Rattle.micro_tiles.specs.Nets.{in_first_half, layer_net, square_net, NumbersAreNets}
 use Rattle.micro_tiles.specs.Shapes.{contact, IsContact}
 use Rattle.micro_tiles.specs.Table.{is_transpose, design_of, boxes, transistor_at}
@@ -33,10 +34,6 @@ lift : (bs : List BoxShape) (S : Squares) (layer : Layer) → ((x y : ℤ) → S
 lift bs S layer all _ _ _ _ (here x y) = here (spot layer x y)
 lift bs S layer all _ _ _ _ (step x y u v s t side member rest) =
     step (spot layer x y) (spot layer u v) (spot layer s t) (inl (refl, side)) (all u v member) (lift bs S layer all u v s t rest)
-
-chain : (bs : List BoxShape) (a b c : Spot) → Joined (Covered bs) a b → Joined (Covered bs) b c → Joined (Covered bs) a c
-chain bs _ _ c (here a) q = q
-chain bs _ _ c (step a m b join conducts rest) q = step a m c join conducts (chain bs m b c rest q)
 
 -- ---- the table
 
@@ -96,10 +93,10 @@ module _ (tile : ℕ) (below : tile < 55) (cuts : has_cut (design_of tile) ≡ t
   -- each conducting square is joined with the metal in the middle, and back
   to_middle : (layer : Layer) (x y : ℤ) → Conducts (Covered (boxes tile)) layer x y → Joined (Covered (boxes tile)) (spot layer x y) (spot Metal (pos 6) (pos 6))
   to_middle Metal x y c = lift (boxes tile) (λ u v. Covered (boxes tile) Metal u v) Metal (λ u v h. h) x y (pos 6) (pos 6) (layer_shape tile Metal below x y (pos 6) (pos 6) c middle_metal)
-  to_middle Poly x y c = chain (boxes tile) (spot Poly x y) (spot Poly (pos 6) (pos 6)) (spot Metal (pos 6) (pos 6))
+  to_middle Poly x y c = chain (Covered (boxes tile)) (spot Poly x y) (spot Poly (pos 6) (pos 6)) (spot Metal (pos 6) (pos 6))
       (lift (boxes tile) (λ u v. Covered (boxes tile) Poly u v) Poly (λ u v h. h) x y (pos 6) (pos 6) (layer_shape tile Poly below x y (pos 6) (pos 6) c (middle_poly x y c)))
       (step (spot Poly (pos 6) (pos 6)) (spot Metal (pos 6) (pos 6)) (spot Metal (pos 6) (pos 6)) (inr (refl, refl, middle_cut)) middle_metal (here (spot Metal (pos 6) (pos 6))))
-  to_middle Diffusion x y c = chain (boxes tile) (spot Diffusion x y) (spot Diffusion (pos 6) (pos 6)) (spot Metal (pos 6) (pos 6))
+  to_middle Diffusion x y c = chain (Covered (boxes tile)) (spot Diffusion x y) (spot Diffusion (pos 6) (pos 6)) (spot Metal (pos 6) (pos 6))
       (lift (boxes tile) (λ u v. Covered (boxes tile) Diffusion u v) Diffusion bare x y (pos 6) (pos 6) (layer_shape tile Diffusion below x y (pos 6) (pos 6) c.0 (middle_diffusion x y c.0)))
       (step (spot Diffusion (pos 6) (pos 6)) (spot Metal (pos 6) (pos 6)) (spot Metal (pos 6) (pos 6)) (inr (refl, refl, middle_cut)) middle_metal (here (spot Metal (pos 6) (pos 6))))
   to_middle Cut x y c = absurd c
@@ -115,7 +112,7 @@ module _ (tile : ℕ) (below : tile < 55) (cuts : has_cut (design_of tile) ≡ t
   from_middle Implant x y c = absurd c
 
   one_net : (a b : Spot) → Conducts (Covered (boxes tile)) a.layer a.x a.y → Conducts (Covered (boxes tile)) b.layer b.x b.y → Joined (Covered (boxes tile)) a b
-  one_net a b c d = chain (boxes tile) a (spot Metal (pos 6) (pos 6)) b (to_middle a.layer a.x a.y c) (from_middle b.layer b.x b.y d)
+  one_net a b c d = chain (Covered (boxes tile)) a (spot Metal (pos 6) (pos 6)) b (to_middle a.layer a.x a.y c) (from_middle b.layer b.x b.y d)
 
 -- ---- a tile without a cut has a net for each layer, and two of diffusion
 

@@ -3,11 +3,11 @@ use Rattle.std.proofs.Common.{◌≡◌, ℕ, ◌<◌, Bool, true, refl}
 use Rattle.micro_tiles.proofs.EachTile.{each_tile, at_tile}
 use Rattle.geom.specs.declared.layer.Layer.{Layer}
 use Rattle.geom.specs.declared.layer.Layer.TheVariants.{Diffusion, Poly, Metal, Cut, Implant}
-use Rattle.geom.specs.Squares.{BoxShape, Covered}
+use Rattle.geom.specs.Squares.{Covered}
 use Rattle.geom.specs.Conduction.{IsOneClass, IsChannel}
-use Rattle.micro_tiles.specs.Regions.{IsTransistor}
+use Rattle.micro_tiles.specs.Regions.{channel_box}
 use Rattle.micro_tiles.specs.Shapes.{TilesHaveOneShape}
-use Rattle.micro_tiles.specs.Table.{design_of, boxes}
+use Rattle.micro_tiles.specs.Table.{is_transpose, design_of, boxes}
 use Rattle.micro_tiles.proofs.Paths.{shape_passes, one_class, through}
 use Rattle.micro_tiles.proofs.RegionFacts.{transistors_are_whole, channels_are_transistors}
 
@@ -48,9 +48,8 @@ layer_shape tile layer below = one_class layer (boxes tile) (at_tile _ tile (all
 channel_shape : (tile : ℕ) → tile < 55 → IsOneClass (λ x y. IsChannel (Covered (boxes tile)) x y)
 channel_shape tile below = λ x y s t member other.
     let there = channels_are_transistors tile x y below member in
-    let whole = transistors_are_whole tile there.0 below there.1 in
-    let r : BoxShape = whole.0 in
-    let w : IsTransistor tile there.0 r = whole.1 in
+    let r = channel_box there.0.mode (is_transpose tile) in
+    let w = transistors_are_whole tile there.0 below there.1 in
     through (IsChannel (Covered (boxes tile))) r (λ u v. (w.channel u v).1) x y s t ((w.channel x y).0 member) ((w.channel s t).0 other)
 
 pub tiles_have_one_shape : TilesHaveOneShape

@@ -8,6 +8,7 @@ use Rattle.geom.specs.Squares.{BoxShape, Inside, Covered}
 use Rattle.geom.specs.Rows.{Squares, Among}
 use Rattle.geom.specs.Conduction.{IsNext, ShareSide, Leads, IsOneClass}
 use Rattle.geom.specs.Conduction.Leads.{here, step}
+use Rattle.geom.proofs.Joins.{share_back}
 use Rattle.micro_tiles.proofs.BoxTests.{le_true, each, some, each_at, some_at, over, covered}
 
 -- a path and another from its end
@@ -120,12 +121,6 @@ covers_is b x y h =
 -- Two squares are one, or share a side.
 abbrev pub IsNear : ℤ → ℤ → ℤ → ℤ → Type 0
 IsNear x y u v = ((x ≡ u) × (y ≡ v)) ⊎ ShareSide x y u v
-
-next_back : (a b : ℤ) → IsNext a b → IsNext b a
-next_back a b h = elim h [ inl e ↦ inr e | inr e ↦ inl e ]
-
-pub share_back : (x y u v : ℤ) → ShareSide x y u v → ShareSide u v x y
-share_back x y u v h = elim h [ inl up ↦ inl (sym up.0, next_back y v up.1) | inr along ↦ inr (sym along.0, next_back x u along.1) ]
 
 near_back : (x y u v : ℤ) → IsNear x y u v → IsNear u v x y
 near_back x y u v h = elim h [ inl one ↦ inl (sym one.0, sym one.1) | inr side ↦ inr (share_back x y u v side) ]

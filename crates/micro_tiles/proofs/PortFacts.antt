@@ -8,7 +8,7 @@ use Rattle.geom.specs.declared.layer.Layer.{Layer}
 use Rattle.geom.specs.declared.layer.Layer.TheVariants.{Diffusion, Poly, Metal, Cut, Implant}
 use Rattle.micro_tiles.specs.declared.side.Side.{Side}
 use Rattle.micro_tiles.specs.declared.side.Side.TheVariants.{North, East, South, West}
-use Rattle.micro_tiles.specs.Sides.{Carries}
+use Rattle.micro_tiles.specs.Sides.{Carries, carries}
 use Rattle.micro_tiles.specs.Designs.{side_net}
 use Rattle.micro_tiles.specs.Nets.{square_net, PortsNameNets}
 use Rattle.micro_tiles.specs.Shapes.{IsInner}
@@ -16,7 +16,7 @@ use Rattle.micro_tiles.specs.Strips.{behind_x, behind_y, Behind}
 use Rattle.micro_tiles.specs.Table.{design_of, boxes, port_at}
 use Rattle.micro_tiles.proofs.ShapeFacts.{tiles_keep_inside}
 use Rattle.micro_tiles.proofs.StripFacts.{tiles_have_strips, ports_lead_out_is}
-use Rattle.micro_tiles.proofs.StripTests.{carries, is_carried}
+use Rattle.micro_tiles.proofs.StripTests.{is_carried}
 
 -- ---- numbers
 

@@ -12,20 +12,12 @@ use Rattle.micro_tiles.specs.declared.device.Mode.{Mode}
 use Rattle.micro_tiles.specs.declared.device.Mode.TheVariants.{Enhancement, Depletion}
 use Rattle.micro_tiles.specs.declared.device.Transistor.{Transistor}
 use Rattle.micro_tiles.specs.Designs.{has_cut}
-use Rattle.micro_tiles.specs.Boxes.{box}
 use Rattle.geom.specs.Conduction.{IsChannel}
 use Rattle.micro_tiles.specs.Nets.{in_first_half}
-use Rattle.micro_tiles.specs.Regions.{beside, grown, is_end, end_net, length_of, width_of, length_by, width_by, IsImplanted, IsTransistor, TransistorsAreWhole, ChannelsAreTransistors}
+use Rattle.micro_tiles.specs.Regions.{channel_box, beside, grown, is_end, end_net, length_of, width_of, length_by, width_by, IsImplanted, IsTransistor, TransistorsAreWhole, ChannelsAreTransistors}
 use Rattle.micro_tiles.specs.Table.{is_transpose, design_of, boxes, transistor_at}
 use Rattle.micro_tiles.proofs.BoxTests.{each, some, holds, avoids, filled, clear, meets_in, each_two, meeting}
 use Rattle.micro_tiles.proofs.ShapeFacts.{nothing, poly_avoids_diffusion}
-
--- the channel of a transistor, and of its transpose
-abbrev pub region : Mode → Bool → BoxShape
-region Enhancement false = box Diffusion 5 6 9 8
-region Enhancement true = box Diffusion 6 5 8 9
-region Depletion false = box Diffusion 6 3 8 11
-region Depletion true = box Diffusion 3 6 11 8
 
 -- ---- tests
 
@@ -52,8 +44,8 @@ abbrev nets_pass : Transistor → Bool
 nets_pass t = (t.gate == 1) && (t.first == 2) && (t.second == 3)
 
 abbrev transistor_passes : List BoxShape → Bool → Bool → Transistor → Bool
-transistor_passes bs transpose cuts t = channel_passes bs (region t.mode transpose) && sides_pass bs transpose (region t.mode transpose)
-    && implant_passes t.mode bs (region t.mode transpose) && nets_pass t && not cuts
+transistor_passes bs transpose cuts t = channel_passes bs (channel_box t.mode transpose) && sides_pass bs transpose (channel_box t.mode transpose)
+    && implant_passes t.mode bs (channel_box t.mode transpose) && nets_pass t && not cuts
 
 abbrev passes_if : List BoxShape → Bool → Bool → Option Transistor → Bool
 passes_if bs transpose cuts None = true
@@ -65,9 +57,9 @@ all_pass = refl
 
 -- what the tests tell of a tile with this transistor
 pub record Passed (tile : ℕ) (t : Transistor) : Type 0 where
-  pub channel : channel_passes (boxes tile) (region t.mode (is_transpose tile)) ≡ true
-  pub sides : sides_pass (boxes tile) (is_transpose tile) (region t.mode (is_transpose tile)) ≡ true
-  pub implant : implant_passes t.mode (boxes tile) (region t.mode (is_transpose tile)) ≡ true
+  pub channel : channel_passes (boxes tile) (channel_box t.mode (is_transpose tile)) ≡ true
+  pub sides : sides_pass (boxes tile) (is_transpose tile) (channel_box t.mode (is_transpose tile)) ≡ true
+  pub implant : implant_passes t.mode (boxes tile) (channel_box t.mode (is_transpose tile)) ≡ true
   pub nets : nets_pass t ≡ true
   pub uncut : has_cut (design_of tile) ≡ false
 
@@ -75,7 +67,7 @@ pub passed : (tile : ℕ) (t : Transistor) → tile < 55 → transistor_at tile 
 passed tile t below is =
     let all : passes_if (boxes tile) (is_transpose tile) (has_cut (design_of tile)) (Some t) ≡ true =
     subst (λ (o : Option Transistor). passes_if (boxes tile) (is_transpose tile) (has_cut (design_of tile)) o ≡ true) is (at_tile _ tile all_pass below) in
-    let r = region t.mode (is_transpose tile) in
+    let r = channel_box t.mode (is_transpose tile) in
     let cuts = and_parts _ _ all in
     let nets = and_parts _ _ cuts.0 in
     let implant = and_parts _ _ nets.0 in
@@ -106,13 +98,13 @@ implanted : (mode : Mode) (bs : List BoxShape) (r : BoxShape) → implant_passes
 implanted Enhancement bs r h = λ x y c. nothing Implant bs x y h c
 implanted Depletion bs r h = filled Implant bs (grown r (pos 2)) h
 
-long : (mode : Mode) (transpose : Bool) → length_of transpose (region mode transpose) ≡ length_by mode
+long : (mode : Mode) (transpose : Bool) → length_of transpose (channel_box mode transpose) ≡ length_by mode
 long Enhancement true = refl
 long Enhancement false = refl
 long Depletion true = refl
 long Depletion false = refl
 
-broad : (mode : Mode) (transpose : Bool) → width_of transpose (region mode transpose) ≡ width_by mode
+broad : (mode : Mode) (transpose : Bool) → width_of transpose (channel_box mode transpose) ≡ width_by mode
 broad Enhancement true = refl
 broad Enhancement false = refl
 broad Depletion true = refl
@@ -141,7 +133,7 @@ is_first East = false
 
 -- the squares beside an end lie in its half
 end_half : (mode : Mode) (transpose : Bool) (side : Side) (x y : ℤ) → is_end transpose side ≡ true
-    → Inside (beside (region mode transpose) side (pos 1)) x y → in_first_half transpose x y ≡ is_first side
+    → Inside (beside (channel_box mode transpose) side (pos 1)) x y → in_first_half transpose x y ≡ is_first side
 end_half Enhancement false North x y e i = le_is (pos 7) y (omega (arith, ints))
 end_half Enhancement false South x y e i = le_not (pos 7) y (omega (arith, ints))
 end_half Enhancement true West x y e i = lt_is x (pos 7) (omega (arith, ints))
@@ -175,9 +167,9 @@ numbered_end t East n = sym n.second
 
 -- ---- the whole
 
-pub whole : (tile : ℕ) (t : Transistor) → Passed tile t → IsTransistor tile t (region t.mode (is_transpose tile))
+pub whole : (tile : ℕ) (t : Transistor) → Passed tile t → IsTransistor tile t (channel_box t.mode (is_transpose tile))
 whole tile t p =
-    let r = region t.mode (is_transpose tile) in
+    let r = channel_box t.mode (is_transpose tile) in
     let n = numbers t p.nets in
     record {
       channel = channel_is (boxes tile) r p.channel;
@@ -198,7 +190,7 @@ whole tile t p =
     }
 
 pub transistors_are_whole : TransistorsAreWhole
-transistors_are_whole tile t below is = (region t.mode (is_transpose tile), whole tile t (passed tile t below is))
+transistors_are_whole tile t below is = whole tile t (passed tile t below is)
 
 pub channels_are_transistors : ChannelsAreTransistors
 channels_are_transistors tile x y below c = poly_avoids_diffusion tile x y x y below c.poly c.diffusion

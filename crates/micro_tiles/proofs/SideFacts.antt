@@ -8,12 +8,13 @@ use Rattle.geom.specs.Squares.{BoxShape, Covered}
 use Rattle.micro_tiles.specs.declared.side.Side.{Side}
 use Rattle.micro_tiles.specs.declared.side.Side.TheVariants.{North, East, South, West}
 use Rattle.micro_tiles.specs.declared.side.Port.{Port}
+use Rattle.micro_tiles.specs.Sides.{carries}
 use Rattle.micro_tiles.specs.Designs.{has_cut}
 use Rattle.micro_tiles.specs.Nets.{in_first_half, ReachesSide, NetsReachSides}
 use Rattle.micro_tiles.specs.Table.{is_transpose, design_of, boxes, port_at}
 use Rattle.micro_tiles.proofs.BoxTests.{each}
 use Rattle.micro_tiles.proofs.ShapeFacts.{nothing}
-use Rattle.micro_tiles.proofs.StripTests.{carries, carries_is}
+use Rattle.micro_tiles.proofs.StripTests.{carries_is}
 
 -- some side carries the layer
 abbrev some_side : (Side → Port) → Layer → Bool

@@ -9,9 +9,9 @@ use Rattle.geom.specs.Rows.{Among}
 use Rattle.micro_tiles.specs.declared.side.Side.{Side}
 use Rattle.micro_tiles.specs.declared.side.Side.TheVariants.{North, East, South, West}
 use Rattle.micro_tiles.specs.declared.side.Port.{Port}
-use Rattle.micro_tiles.specs.Sides.{Carries}
+use Rattle.micro_tiles.specs.Sides.{Carries, carries, is_some_layer}
 use Rattle.micro_tiles.specs.Strips.{behind_x, behind_y, Behind, IsStrip}
-use Rattle.micro_tiles.proofs.BoxTests.{le_true, same, same_eq, each, some, each_at, some_at, over, covered}
+use Rattle.micro_tiles.proofs.BoxTests.{le_true, same_eq, each, some, each_at, some_at, over, covered}
 
 -- a box as a side sees it: by depths and by places
 pub record Seen : Type 0 where
@@ -72,14 +72,7 @@ begins_is s h =
       to = le_true s.to (pos 9) to.1;
     }
 
--- the port carries the layer
-abbrev pub is_some_layer : Option Layer → Layer → Bool
-is_some_layer None layer = false
-is_some_layer (Some other) layer = same other layer
-
-abbrev pub carries : Port → Layer → Bool
-carries port Metal = port.metal
-carries port layer = is_some_layer port.other layer
+-- ---- whether a port carries a layer
 
 some_layer_is : (o : Option Layer) (layer : Layer) → is_some_layer o layer ≡ true → o ≡ Some layer
 some_layer_is None layer h = cc

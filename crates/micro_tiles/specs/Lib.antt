@@ -6,6 +6,7 @@ pub mod Table
 pub mod Strips
 pub mod Shapes
 pub mod Nets
+pub mod Conducting
 pub mod Regions
 pub mod Transposes
 pub mod Examples

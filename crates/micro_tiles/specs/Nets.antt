@@ -1,15 +1,19 @@
 -- The numbers of a tile's nets, at its squares.
-use Rattle.std.specs.Prelude.{◌≡◌, ◌↔◌, ℕ, ◌<◌, ℤ, pos, int_le, int_lt, Bool, true, false, if◌then◌else◌}
+use Rattle.std.specs.Prelude.{◌≡◌, ◌↔◌, ℕ, ◌<◌, ℤ, pos, int_le, int_lt, Bool, true, false, Option, Some, None, if◌then◌else◌}
 use Rattle.geom.specs.Squares.{Covered}
 use Rattle.geom.specs.declared.layer.Layer.{Layer}
 use Rattle.geom.specs.declared.layer.Layer.TheVariants.{Poly, Metal}
 use Rattle.micro_tiles.specs.declared.side.Side.{Side}
 use Rattle.micro_tiles.specs.declared.tile.TheConstants.{TILES}
-use Rattle.micro_tiles.specs.Sides.{Carries}
+use Rattle.micro_tiles.specs.Sides.{Carries, carries}
 use Rattle.micro_tiles.specs.Designs.{has_cut, side_net}
 use Rattle.geom.specs.Conduction.{Spot, Conducts, Joined}
 use Rattle.micro_tiles.specs.Strips.{behind_x, behind_y}
 use Rattle.micro_tiles.specs.Table.{is_transpose, design_of, boxes, port_at}
+
+-- the number of the net that the side of the tile has in the layer, if it carries the layer
+abbrev pub named_net : ℕ → Side → Layer → Option ℕ
+named_net tile side layer = if carries (port_at tile side) layer then Some (side_net (design_of tile) side layer) else None
 
 -- The square lies in the half of the tile that has the first terminal: the north, or the west of a transpose.
 abbrev pub in_first_half : Bool → ℤ → ℤ → Bool

@@ -1,5 +1,5 @@
 -- The transistors of tiles, on squares.
-use Rattle.std.specs.Prelude.{◌≡◌, ◌↔◌, ℕ, ◌<◌, ℤ, pos, ◌+ℤ◌, ◌-ℤ◌, Bool, true, false, IsTrue, IsFalse, List, Some, if◌then◌else◌}
+use Rattle.std.specs.Prelude.{◌≡◌, ◌↔◌, ℕ, ◌<◌, ℤ, pos, ◌+ℤ◌, ◌-ℤ◌, Bool, true, false, IsTrue, IsFalse, List, Option, Some, option_map, if◌then◌else◌}
 use Rattle.geom.specs.declared.layer.Layer.TheVariants.{Diffusion, Poly, Implant}
 use Rattle.geom.specs.Squares.{BoxShape, Inside, Covered}
 use Rattle.micro_tiles.specs.declared.side.Side.{Side}
@@ -9,6 +9,7 @@ use Rattle.micro_tiles.specs.declared.device.Mode.TheVariants.{Enhancement, Depl
 use Rattle.micro_tiles.specs.declared.device.Transistor.{Transistor}
 use Rattle.micro_tiles.specs.declared.tile.TheConstants.{TILES}
 use Rattle.geom.specs.Conduction.{IsChannel, Conducts}
+use Rattle.micro_tiles.specs.Boxes.{box}
 use Rattle.micro_tiles.specs.Nets.{square_net}
 use Rattle.micro_tiles.specs.Table.{is_transpose, boxes, transistor_at}
 
@@ -53,6 +54,17 @@ abbrev pub width_by : Mode → ℤ
 width_by Enhancement = pos 4
 width_by Depletion = pos 2
 
+-- the channel of a transistor, and of its transpose
+abbrev pub channel_box : Mode → Bool → BoxShape
+channel_box Enhancement false = box Diffusion 5 6 9 8
+channel_box Enhancement true = box Diffusion 6 5 8 9
+channel_box Depletion false = box Diffusion 6 3 8 11
+channel_box Depletion true = box Diffusion 3 6 11 8
+
+-- the channel of the tile's transistor
+abbrev pub channel_of : ℕ → Option BoxShape
+channel_of tile = option_map (λ transistor. channel_box transistor.mode (is_transpose tile)) (transistor_at tile)
+
 -- A depletion channel and two squares round it are under implant; there is none by an enhancement channel.
 abbrev pub IsImplanted : Mode → List BoxShape → BoxShape → Type 0
 IsImplanted Enhancement boxes r = (x y : ℤ) → Covered boxes Implant x y → ⊥
@@ -75,7 +87,7 @@ pub record IsTransistor (tile : ℕ) (transistor : Transistor) (r : BoxShape) : 
 
 abbrev pub TransistorsAreWhole : Type 0
 TransistorsAreWhole = (tile : ℕ) (transistor : Transistor) → tile < TILES → transistor_at tile ≡ Some transistor
-    → (r : BoxShape) × IsTransistor tile transistor r
+    → IsTransistor tile transistor (channel_box transistor.mode (is_transpose tile))
 
 -- A tile with a channel has a transistor.
 abbrev pub ChannelsAreTransistors : Type 0

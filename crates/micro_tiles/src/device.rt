@@ -1,10 +1,12 @@
 // The transistors of tiles.
 
 ghost use Rattle.std.specs.Prelude.{◌≡◌};
+ghost use Rattle.micro_tiles.specs.Regions.{channel_of};
 ghost use Rattle.micro_tiles.specs.Table.{transistor_at};
 
 use crate::design::Design;
 use crate::tile::Tile;
+use geom::{Box2, Layer};
 
 /// How a transistor works.
 #[derive(Clone, Copy, Debug, PartialEq, Eq)]
@@ -39,4 +41,17 @@ pub fn transistor_in(tile: Tile) -> Option<Transistor>
         first: 2,
         second: 3,
     })
+}
+
+/// The squares of the channel of the tile's transistor, if it has one: a box of diffusion, in lambda from the tile's lower
+/// left corner.
+pub fn channel_in(tile: Tile) -> Option<Box2>
+    ensures { result ≡ channel_of tile }
+{
+    match (transistor_in(tile)?.mode, tile.is_transpose()) {
+        (Mode::Enhancement, false) => Box2::new(Layer::Diffusion, 5, 6, 9, 8),
+        (Mode::Enhancement, true) => Box2::new(Layer::Diffusion, 6, 5, 8, 9),
+        (Mode::Depletion, false) => Box2::new(Layer::Diffusion, 6, 3, 8, 11),
+        (Mode::Depletion, true) => Box2::new(Layer::Diffusion, 3, 6, 11, 8),
+    }
 }

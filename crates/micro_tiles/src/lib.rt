@@ -2,6 +2,7 @@
 #![tactic(auto)]
 
 pub mod boxes;
+pub mod conducting;
 pub mod design;
 pub mod device;
 pub mod examples;
@@ -13,8 +14,9 @@ pub mod table;
 pub mod tile;
 
 pub use boxes::{TILE_SIDE, box_at, box_count};
+pub use conducting::conducts;
 pub use design::{Arms, Design};
-pub use device::{Mode, Transistor, transistor_in};
+pub use device::{Mode, Transistor, channel_in, transistor_in};
 pub use nets::{local_net, net_of_square};
 pub use ports::port;
 pub use side::{Port, Side};

@@ -1,8 +1,8 @@
 // The nets of tiles, by numbers.
 
-ghost use Rattle.std.specs.Prelude.{◌≡◌, ◌↔◌, IsSome, IfSome};
+ghost use Rattle.std.specs.Prelude.{◌≡◌, ◌<◌, ◌↔◌, IsSome, IfSome};
 ghost use Rattle.micro_tiles.specs.Designs.{side_net};
-ghost use Rattle.micro_tiles.specs.Nets.{in_first_half, square_net};
+ghost use Rattle.micro_tiles.specs.Nets.{in_first_half, named_net, square_net};
 ghost use Rattle.micro_tiles.specs.Sides.{Carries};
 ghost use Rattle.micro_tiles.specs.Table.{is_transpose, design_of, port_at};
 
@@ -18,6 +18,8 @@ use geom::Layer;
 pub fn local_net(tile: Tile, side: Side, layer: Layer) -> Option<u8>
     ensures carried { IsSome result ↔ Carries (port_at tile side) layer }
     ensures net { IfSome result (λ net. net ≡ side_net (design_of tile) side layer) }
+    ensures named { result ≡ named_net tile side layer }
+    ensures few { IfSome result (λ net. net < 4) }
 {
     if port(tile, side).carries(layer) {
         Some(net_at_side(tile.design(), side, layer))
@@ -29,7 +31,8 @@ pub fn local_net(tile: Tile, side: Side, layer: Layer) -> Option<u8>
 /// The number, among the tile's nets, of its square (`x`, `y`), in lambda from the tile's lower left corner, which
 /// conducts in the layer.
 pub fn net_of_square(tile: Tile, layer: Layer, x: i64, y: i64) -> u8
-    ensures { result ≡ square_net tile layer x y }
+    ensures number { result ≡ square_net tile layer x y }
+    ensures few { result < 4 }
 {
     match (tile.design(), layer) {
         (Design::Contact(_, _, _), _) | (_, Layer::Metal) => 0,

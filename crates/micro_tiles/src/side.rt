@@ -1,7 +1,7 @@
 // The sides of tiles, and what they carry.
 
 ghost use Rattle.std.specs.Prelude.{◌≡◌, ◌↔◌, IsTrue};
-ghost use Rattle.micro_tiles.specs.Sides.{Carries, mirrored_side};
+ghost use Rattle.micro_tiles.specs.Sides.{Carries, mirrored_side, opposite};
 
 use geom::Layer;
 
@@ -25,6 +25,18 @@ impl Side {
             Side::East => Side::South,
             Side::South => Side::East,
             Side::West => Side::North,
+        }
+    }
+
+    /// The side at the other end of a straight wire.
+    pub fn opposite(self) -> Side
+        ensures { result ≡ opposite self }
+    {
+        match self {
+            Side::North => Side::South,
+            Side::East => Side::West,
+            Side::South => Side::North,
+            Side::West => Side::East,
         }
     }
 }

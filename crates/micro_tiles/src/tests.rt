@@ -1,8 +1,8 @@
 // Tiles written out by hand.
 
 use crate::{
-    Mode, Side, TILES, Tile, box_at, box_count, local_net, net_of_square, port, transistor_in,
-    transposed,
+    Mode, Side, TILES, Tile, box_at, box_count, channel_in, local_net, net_of_square, port,
+    transistor_in, transposed,
 };
 use geom::{Box2, Layer};
 
@@ -217,4 +217,19 @@ fn transposes_change_places(rt: HostRuntime) {
     assert!(rt; mode_of(26) == Some(Mode::Enhancement));
     assert!(rt; mode_of(54) == Some(Mode::Depletion));
     assert!(rt; mode_of(10).is_none());
+}
+
+/// The channel of the tile of this number, if it has one.
+fn channel(number: u8) -> Option<Box2> {
+    channel_in(Tile::new(number)?)
+}
+
+#[test]
+fn transistors_have_their_channels(rt: HostRuntime) {
+    let diffusion = Layer::Diffusion;
+    assert!(rt; channel(26) == drawn(diffusion, 5, 6, 9, 8));
+    assert!(rt; channel(53) == drawn(diffusion, 6, 5, 8, 9));
+    assert!(rt; channel(27) == drawn(diffusion, 6, 3, 8, 11));
+    assert!(rt; channel(54) == drawn(diffusion, 3, 6, 11, 8));
+    assert!(rt; channel(20).is_none());
 }

@@ -42,8 +42,16 @@ impl Tile {
         }
     }
 
+    /// Its number in the table.
+    pub fn number(self) -> u8
+        ensures number { result ≡ self }
+        ensures known { result < TILES }
+    {
+        self.0
+    }
+
     /// Whether it is the transpose of a basic tile.
-    pub(crate) fn is_transpose(self) -> bool
+    pub fn is_transpose(self) -> bool
         ensures { result ≡ is_transpose self }
     {
         self.0 >= BASICS
@@ -73,6 +81,7 @@ impl Tile {
 /// (13 - y, 13 - x).
 pub fn transposed(tile: Tile) -> Tile
     ensures number { result ≡ transpose_of tile }
+    ensures known { result < TILES }
     ensures ports { (side : Side) → port_at result (mirrored_side side) ≡ port_at tile side }
 {
     Tile(transposed_number(tile.0))
