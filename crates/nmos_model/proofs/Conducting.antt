@@ -1,7 +1,7 @@
 -- The nodes of a raster that shows a drawing are its conducting squares, and links are joins.
 use Rattle.std.proofs.Common.{◌≡◌, ◌≢◌, ◌↔◌, ◌⊎◌, inl, inr, ℕ, zero, suc, ◌<◌, ◌≤◌, ◌+◌, ◌-◌, ◌*◌, ◌/◌, ◌%◌, ◌&&◌, not, ℤ, pos, ◌+ℤ◌, arith, refl, sym, ap, subst, ◌∙◌, Bool, true, false, Some, List, length}
 use Rattle.std.proofs.lemmas.Int.{ints}
-use Rattle.std.proofs.Math.Nat.{div-add-mod', mod-lt, div-lt_iff_lt-mul, mul_comm, mul-le-mul_right}
+use Rattle.std.proofs.Math.Nat.{mul-le-mul_right}
 use Rattle.geom.specs.declared.layer.Layer.{Layer}
 use Rattle.geom.specs.declared.layer.Layer.TheVariants.{Diffusion, Poly, Metal, Cut, Implant}
 use Rattle.nmos_model.specs.declared.raster.Cover.{Cover}
@@ -10,12 +10,13 @@ use Rattle.nmos_model.specs.Classes.{IsGraph, Linked, Reaches}
 use Rattle.nmos_model.specs.Classes.Reaches.{here, step}
 use Rattle.geom.specs.Conduction.{Drawing, ShareSide, Spot, Conducts, IsJoin, Joined}
 use Rattle.geom.specs.Conduction.Joined.{here, step}
+use Rattle.geom.proofs.Joins.{join_back}
 use Rattle.nmos_model.specs.Conductors.{Squares, is_node, links, other_layer, conducts, layer_of}
 use Rattle.nmos_model.specs.NetMaps.{conductor}
 use Rattle.nmos_model.specs.Rasters.{StandsAt, IsInner, Shows, cover_at, number_of}
 use Rattle.nmos_model.proofs.Neighbours.Neighbour.{west, east, south, north, first_under, second_under}
 use Rattle.nmos_model.proofs.Neighbours.{Neighbour, neighbours, linked, neighbour_back, node_within}
-use Rattle.nmos_model.proofs.Places.{one_place}
+use Rattle.nmos_model.proofs.Places.{one_place, stands_at, stands_once, number_is, east_side, north_side, side_numbers}
 use Rattle.nmos_model.proofs.Common.{same_or_apart}
 
 -- the number of a layer among those of a square
@@ -87,27 +88,21 @@ module _ (frame : Frame) (squares : List Cover) (Drawn : Drawing) (shows : Shows
   abbrev pub spot_of : (n : ℕ) → Place n → Spot
   spot_of n p = record { layer = p.layer; x = p.x; y = p.y }
 
-  positive : (w h cell : ℕ) → cell < w * h → 0 < w
-  positive zero h cell lt = absurd (omega arith)
-  positive (suc w) h cell lt = omega arith
+  -- a square with a layer lies inside
+  pub inner_at : (layer : Layer) (x y : ℤ) (column row : ℕ) → StandsAt frame x y column row → Drawn layer x y → IsInner frame column row
+  inner_at layer x y column row at h =
+      let inner = shows.inner layer x y h in
+      let same = stands_once frame x y inner.0 inner.1 column row inner.2 at in
+      subst (λ r. IsInner frame column r) same.1 (subst (λ c. IsInner frame c inner.1) same.0 inner.3)
 
   pub decode : (n : ℕ) → is_node raster n ≡ true → Place n
   decode n e =
       let within = node_within raster n e in
       let cell : n / 3 < frame.width * frame.height = omega (arith, within, shows.size) in
-      let some = positive frame.width frame.height (n / 3) cell in
-      let split = div-add-mod' (n / 3) frame.width in
-      let column = mod-lt (n / 3) some in
-      let row : n / 3 / frame.width < frame.height = (div-lt_iff_lt-mul some).1 (subst (λ m. n / 3 < m) (mul_comm frame.width frame.height) cell) in
-      let at : StandsAt frame (frame.x +ℤ pos (n / 3 % frame.width)) (frame.y +ℤ pos (n / 3 / frame.width)) (n / 3 % frame.width) (n / 3 / frame.width) =
-      record { across = refl; upward = refl; column_within = column; row_within = row } in
+      let at = stands_at frame (n / 3) cell in
+      let split = number_is frame (n / 3) in
       let layer = layer_is (n % 3) (omega arith) in
       let there = (conducting (layer_of (n % 3)) _ _ _ _ at).0 (subst (λ m. conducts (layer_of (n % 3)) (cover_at squares m) ≡ true) (sym split) e) in
-      let inner = shows.inner _ _ _ (drawn_of (layer_of (n % 3)) _ _ there) in
-      let same_column = inner.2.across in
-      let same_row = inner.2.upward in
-      let columns : inner.0 ≡ n / 3 % frame.width = omega (arith, ints) in
-      let rows : inner.1 ≡ n / 3 / frame.width = omega (arith, ints) in
       record {
         layer = layer_of (n % 3);
         x = frame.x +ℤ pos (n / 3 % frame.width);
@@ -115,7 +110,7 @@ module _ (frame : Frame) (squares : List Cover) (Drawn : Drawing) (shows : Shows
         column = n / 3 % frame.width;
         row = n / 3 / frame.width;
         at = at;
-        inner = subst (λ r. IsInner frame (n / 3 % frame.width) r) rows (subst (λ c. IsInner frame c inner.1) columns inner.3);
+        inner = inner_at (layer_of (n % 3)) _ _ _ _ at (drawn_of (layer_of (n % 3)) _ _ there);
         is = omega (arith, split, layer);
         conducts_there = there;
       }
@@ -205,22 +200,14 @@ module _ (frame : Frame) (squares : List Cover) (Drawn : Drawing) (shows : Shows
     pub east_step : b ≡ a + 3 → IsJoin Drawn (spot_of a p) (spot_of b q)
     east_step e =
         let i = index_below p.layer in let j = index_below q.layer in let pa = p.is in let qb = q.is in
-        let next : p.row * frame.width + (p.column + 1) ≡ q.row * frame.width + q.column = omega arith in
         let layer : index p.layer ≡ index q.layer = omega arith in
-        let same = one_place frame.width p.row q.row (p.column + 1) q.column p.inner.right q.at.column_within next in
-        let r = same.0 in let c = same.1 in
-        let px = p.at.across in let py = p.at.upward in let qx = q.at.across in let qy = q.at.upward in
-        within_layer layer (inr (omega (arith, ints), inl (omega (arith, ints))))
+        within_layer layer (east_side frame p.x p.y q.x q.y p.column p.row q.column q.row p.at q.at p.inner.right (omega arith))
 
     pub north_step : b ≡ a + 3 * frame.width → IsJoin Drawn (spot_of a p) (spot_of b q)
     north_step e =
         let i = index_below p.layer in let j = index_below q.layer in let pa = p.is in let qb = q.is in
-        let next : (p.row + 1) * frame.width + p.column ≡ q.row * frame.width + q.column = omega arith in
         let layer : index p.layer ≡ index q.layer = omega arith in
-        let same = one_place frame.width (p.row + 1) q.row p.column q.column p.at.column_within q.at.column_within next in
-        let r = same.0 in let c = same.1 in
-        let px = p.at.across in let py = p.at.upward in let qx = q.at.across in let qy = q.at.upward in
-        within_layer layer (inl (omega (arith, ints), inl (omega (arith, ints))))
+        within_layer layer (north_side frame p.x p.y q.x q.y p.column p.row q.column q.row p.at q.at (omega arith))
 
     pub under_step : (by : ℕ) → 0 < by → by < 3 → b ≡ other_layer a by → (cover_at squares (a / 3)).cut ≡ true
         → IsJoin Drawn (spot_of a p) (spot_of b q)
@@ -234,16 +221,6 @@ module _ (frame : Frame) (squares : List Cover) (Drawn : Drawing) (shows : Shows
         let drawn = (shows.is Cut p.x p.y p.column p.row p.at).0 (subst (λ m. (cover_at squares m).cut ≡ true) cell cut) in
         inr (omega (arith, ints), omega (arith, ints), drawn)
 
-  side_back : (x y u v : ℤ) → ShareSide x y u v → ShareSide u v x y
-  side_back x y u v (inl (e, inl f)) = inl (sym e, inr f)
-  side_back x y u v (inl (e, inr f)) = inl (sym e, inl f)
-  side_back x y u v (inr (e, inl f)) = inr (sym e, inr f)
-  side_back x y u v (inr (e, inr f)) = inr (sym e, inl f)
-
-  join_back : (a b : Spot) → IsJoin Drawn a b → IsJoin Drawn b a
-  join_back a b (inl (e, side)) = inl (sym e, side_back a.x a.y b.x b.y side)
-  join_back a b (inr (x, y, cut)) = inr (sym x, sym y, subst (λ v. Drawn Cut b.x v) y (subst (λ u. Drawn Cut u a.y) x cut))
-
   -- an inner square has squares below it and on its left
   has_below : (a : ℕ) (p : Place a) → 3 * frame.width + 3 ≤ a
   has_below a p =
@@ -252,9 +229,9 @@ module _ (frame : Frame) (squares : List Cover) (Drawn : Drawing) (shows : Shows
       omega (arith, e, rows, left)
 
   neighbour_join : (a b : ℕ) (p : Place a) (q : Place b) → Neighbour raster a b → IsJoin Drawn (spot_of a p) (spot_of b q)
-  neighbour_join a _ p q west = let low = has_below a p in join_back _ _ (east_step (a - 3) a q p (omega arith))
+  neighbour_join a _ p q west = let low = has_below a p in join_back Drawn _ _ (east_step (a - 3) a q p (omega arith))
   neighbour_join a _ p q east = east_step a (a + 3) p q refl
-  neighbour_join a _ p q south = let low = has_below a p in join_back _ _ (north_step (a - 3 * frame.width) a q p (omega arith))
+  neighbour_join a _ p q south = let low = has_below a p in join_back Drawn _ _ (north_step (a - 3 * frame.width) a q p (omega arith))
   neighbour_join a _ p q north = north_step a (a + 3 * frame.width) p q refl
   neighbour_join a _ p q (first_under cut) = under_step a (other_layer a 1) p q 1 (omega arith) (omega arith) refl cut
   neighbour_join a _ p q (second_under cut) = under_step a (other_layer a 2) p q 2 (omega arith) (omega arith) refl cut
@@ -341,34 +318,16 @@ module _ (frame : Frame) (squares : List Cover) (Drawn : Drawing) (shows : Shows
 
     side_link : p.layer ≡ q.layer → ShareSide p.x p.y q.x q.y → Linked (links raster) n m
     side_link layer side =
-        let px = p.at.across in let py = p.at.upward in let qx = q.at.across in let qy = q.at.upward in
         let e = p.is in let f = q.is in let i = ap index layer in
-        elim side [
-          | inl v ↦
-              let x = v.0 in
-              let column : p.column ≡ q.column = omega (arith, ints) in
-              elim v.1 [
-                | inl up ↦
-                    let row : q.row ≡ p.row + 1 = omega (arith, ints) in
-                    let rows = ap (λ r. r * frame.width) row in
-                    linked_by (n + 3 * frame.width) north (omega (arith, e, f, rows, column, i))
-                | inr down ↦
-                    let row : p.row ≡ q.row + 1 = omega (arith, ints) in
-                    let rows = ap (λ r. r * frame.width) row in
-                    linked_by (n - 3 * frame.width) south (omega (arith, e, f, rows, column, i))
-              ]
-          | inr h ↦
-              let y = h.0 in
-              let row : p.row ≡ q.row = omega (arith, ints) in
-              let rows = ap (λ r. r * frame.width) row in
-              elim h.1 [
-                | inl right ↦
-                    let column : q.column ≡ p.column + 1 = omega (arith, ints) in
-                    linked_by (n + 3) east (omega (arith, e, f, rows, column, i))
-                | inr left ↦
-                    let column : p.column ≡ q.column + 1 = omega (arith, ints) in
-                    linked_by (n - 3) west (omega (arith, e, f, rows, column, i))
-              ]
+        elim (side_numbers frame p.x p.y q.x q.y p.column p.row q.column q.row p.at q.at side) [
+          | inl across ↦ elim across [
+            | inl right ↦ linked_by (n + 3) east (omega (arith, e, f, right, i))
+            | inr left ↦ linked_by (n - 3) west (omega (arith, e, f, left, i))
+          ]
+          | inr upward ↦ elim upward [
+            | inl up ↦ linked_by (n + 3 * frame.width) north (omega (arith, e, f, up, i))
+            | inr down ↦ linked_by (n - 3 * frame.width) south (omega (arith, e, f, down, i))
+          ]
         ]
 
     cut_link : p.layer ≢ q.layer → p.x ≡ q.x → p.y ≡ q.y → Drawn Cut p.x p.y → Linked (links raster) n m

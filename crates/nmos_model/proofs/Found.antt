@@ -119,28 +119,21 @@ module _ (frame : Frame) (squares : List Cover) (Drawn : Drawing) (shows : Shows
             net_at n p ∙ c.1 ∙ sym ((classing.one n m c.0 c.1).1 path) ∙ sym (net_at m q),
       )
 
-  -- no net where nothing conducts
-  no_net : (layer : Layer) (x y : ℤ) (i c r : Option ℕ) → conductor layer ≡ i → counted frame.width (x -ℤ frame.x) ≡ c
-      → counted frame.height (y -ℤ frame.y) ≡ r → (Conducts Drawn layer x y → ⊥) → class_of frame.width classes.numbers i c r ≡ None
-  no_net layer x y None c r ei ec er never = refl
-  no_net layer x y (Some i) None r ei ec er never = refl
-  no_net layer x y (Some i) (Some c) None ei ec er never = refl
-  no_net layer x y (Some i) (Some c) (Some r) ei ec er never =
+  -- a square with a net conducts
+  conducts_with : (layer : Layer) (x y : ℤ) (i c r : Option ℕ) (k : ℕ) → conductor layer ≡ i → counted frame.width (x -ℤ frame.x) ≡ c
+      → counted frame.height (y -ℤ frame.y) ≡ r → class_of frame.width classes.numbers i c r ≡ Some k → Conducts Drawn layer x y
+  conducts_with layer x y None c r k ei ec er e = absurd (cc)
+  conducts_with layer x y (Some i) None r k ei ec er e = absurd (cc)
+  conducts_with layer x y (Some i) (Some c) None k ei ec er e = absurd (cc)
+  conducts_with layer x y (Some i) (Some c) (Some r) k ei ec er e =
       let column = counted_is frame.width (x -ℤ frame.x) c (sym ec) in
       let row = counted_is frame.height (y -ℤ frame.y) r (sym er) in
       let which = conductor_is layer i (sym ei) in
       let xe = column.0 in let ye = row.0 in
       let at : StandsAt frame x y c r = record { across = omega (arith, ints); upward = omega (arith, ints); column_within = column.1; row_within = row.1 } in
       let n = 3 * number_of frame.width c r + i in
-      go (class_at classes.numbers n) refl (λ k e.
-      never (node_conducts frame squares Drawn shows layer x y c r at (i, sym ei)
-      (subst (λ m. is_node (raster frame squares Drawn shows) (3 * number_of frame.width c r + m) ≡ true) which.0 (node_of_class n k e))))
-    where
-      go : (o : Option ℕ) → class_at classes.numbers (3 * number_of frame.width c r + i) ≡ o
-          → ((k : ℕ) → class_at classes.numbers (3 * number_of frame.width c r + i) ≡ Some k → ⊥)
-          → class_at classes.numbers (3 * number_of frame.width c r + i) ≡ None
-      go None e dead = e
-      go (Some k) e dead = absurd (dead k e)
+      node_conducts frame squares Drawn shows layer x y c r at (i, sym ei)
+      (subst (λ m. is_node (raster frame squares Drawn shows) (3 * number_of frame.width c r + m) ≡ true) which.0 (node_of_class n k e))
 
   pub are_nets : AreNets Drawn (net_count map) (net_of map)
   are_nets = record {
@@ -149,7 +142,7 @@ module _ (frame : Frame) (squares : List Cover) (Drawn : Drawing) (shows : Shows
         let c = class_some p.number p.place in
         let is = net_at p.number p.place in
         (c.0, is ∙ c.1, c.2);
-    none = λ layer x y never. no_net layer x y _ _ _ refl refl refl never;
+    conducts = λ layer x y k e. conducts_with layer x y _ _ _ k refl refl refl e;
     all = λ n lt.
         let a = slice_index_or classes.firsts n 0 in
         let e = classing.first n a (slice_get-get_or classes.firsts n 0 lt) in

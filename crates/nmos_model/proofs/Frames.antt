@@ -154,6 +154,11 @@ module _ (boxes : List BoxShape) (e : Extent) (least : IsExtent boxes e) where
     few = by_sides framed.width framed.height (wide_enough e.x1 e.x2 framed.width across framed.across) (wide_enough e.y1 e.y2 framed.height upward framed.upward)
         framed.columns framed.rows framed.few;
     some = let rows = framed.rows in omega arith;
+    near =
+        let first = across.first in let last = across.last in let low = upward.first in let high = upward.last in
+        let a = framed.across in let h = framed.upward in let x = framed.left in let y = framed.bottom in
+        let columns = framed.columns in let rows = framed.rows in
+        record { left = omega (arith, ints); right = omega (arith, ints); bottom = omega (arith, ints); top = omega (arith, ints) };
   }
     where
       by_sides : (w h : ℕ) → 0 < w → 0 < h → frame.width ≡ w + 2 → frame.height ≡ h + 2 → w * h ≤ 4000000 → frame.width * frame.height ≤ 20000004

@@ -24,7 +24,7 @@ pub data Neighbour (squares : Squares) (a : ℕ) : ℕ → Type 0 where
   first_under : (cover_at squares.covers (a / 3)).cut ≡ true → Neighbour squares a (other_layer a 1)
   second_under : (cover_at squares.covers (a / 3)).cut ≡ true → Neighbour squares a (other_layer a 2)
 
-found : (t : Bool) (n b : ℕ) → cond t (Some n) None ≡ Some b → (t ≡ true) × (n ≡ b)
+pub found : (t : Bool) (n b : ℕ) → cond t (Some n) None ≡ Some b → (t ≡ true) × (n ≡ b)
 found true n b e = (refl, inside n b e)
 found false n b e = absurd (cc)
 

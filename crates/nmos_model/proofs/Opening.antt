@@ -158,6 +158,7 @@ module _ (nodes : ℕ) (is_node : ℕ → Bool) (links : ℕ → List (Option �
   pub classified : IsClassing nodes is_node links (record { numbers = numbers; firsts = firsts })
   classified = record {
     size = flooded.size;
+    few = flooded.few;
     some = λ a lt n.
         let had = classed (class_at numbers a) (flooded.visited a lt n) in
         (had.0, had.1, flooded.below a had.0 had.1);

@@ -28,6 +28,7 @@ class_at numbers a = slice_index_or numbers a None
 -- Nodes have one class exactly where a path leads from one to the other. Classes are numbered by their first nodes.
 pub record IsClassing (nodes : ℕ) (is_node : ℕ → Bool) (links : ℕ → List (Option ℕ)) (classes : Classing) : Type 0 where
   pub size : length classes.numbers ≡ nodes
+  pub few : length classes.firsts ≤ nodes
   pub some : (a : ℕ) → a < nodes → is_node a ≡ true → (class : ℕ) × (class_at classes.numbers a ≡ Some class) × (class < length classes.firsts)
   pub none : (a : ℕ) → is_node a ≡ false → class_at classes.numbers a ≡ None
   pub one : (a b class : ℕ) → class_at classes.numbers a ≡ Some class → (class_at classes.numbers b ≡ Some class) ↔ Reaches links a b

@@ -1,5 +1,5 @@
 -- The least rectangle round boxes, and the frame of a raster that holds them.
-use Rattle.std.specs.Prelude.{◌≡◌, ℕ, ◌<◌, ◌≤◌, ◌+◌, ◌*◌, pos, ◌+ℤ◌, ◌≤ℤ◌, List}
+use Rattle.std.specs.Prelude.{◌≡◌, ℕ, ◌<◌, ◌≤◌, ◌+◌, ◌*◌, ◌^◌, pos, neg_ℤ, ◌+ℤ◌, ◌≤ℤ◌, List}
 use Rattle.std.specs.Int.{int_min, int_max}
 use Rattle.geom.specs.Squares.{BoxShape}
 use Rattle.geom.specs.Rows.{Among}
@@ -48,11 +48,19 @@ pub record IsFramed (e : Extent) (frame : Frame) : Type 0 where
   pub rows : frame.height ≡ height + 2
   pub few : width * height ≤ 4000000
 
--- The frame holds the boxes, with a square on all sides, and is not too large.
+-- The frame lies within 2^40 + 1 of the origin.
+pub record IsNear (frame : Frame) : Type 0 where
+  pub left : neg_ℤ (pos (2 ^ 40 + 1)) ≤ℤ frame.x
+  pub right : (frame.x +ℤ pos frame.width) ≤ℤ pos (2 ^ 40 + 1)
+  pub bottom : neg_ℤ (pos (2 ^ 40 + 1)) ≤ℤ frame.y
+  pub top : (frame.y +ℤ pos frame.height) ≤ℤ pos (2 ^ 40 + 1)
+
+-- The frame holds the boxes, with a square on all sides, is not too large and lies near the origin.
 pub record IsFrameOf (boxes : List BoxShape) (frame : Frame) : Type 0 where
   pub holds : (b : BoxShape) → Among boxes b → Holds frame b
   pub few : frame.width * frame.height ≤ 20000004
   pub some : 0 < frame.height
+  pub near : IsNear frame
 
 -- the edges of the box
 abbrev pub edges_of : BoxShape → Extent

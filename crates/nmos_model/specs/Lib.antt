@@ -1,3 +1,4 @@
+pub mod Lists
 pub mod Classes
 pub mod Flooding
 pub mod Nets
@@ -5,3 +6,11 @@ pub mod Rasters
 pub mod Extents
 pub mod Conductors
 pub mod NetMaps
+pub mod Channels
+pub mod Pads
+pub mod Devices
+pub mod Networks
+pub mod Regions
+pub mod Refusals
+pub mod Unsound
+pub mod KnownPads

@@ -98,7 +98,7 @@ fn layer_of(number: u32) -> Layer
 }
 
 /// The square conducts in the layer.
-fn conducts(layer: Layer, cover: Cover) -> bool
+pub(crate) fn conducts(layer: Layer, cover: Cover) -> bool
     ensures { result ≡ conducts layer cover }
 {
     match layer {

@@ -1,16 +1,36 @@
 //! Squares of nMOS layers, and the networks that they stand for.
 #![tactic(auto)]
 
+mod block;
+mod channel;
+mod channel_squares;
 mod classes;
 mod conductors;
+mod devices;
+mod edges;
 mod frame;
+mod known_pads;
+pub mod laws;
 mod nets;
+mod network;
 mod no_memory;
+mod pads;
+mod plain;
 mod raster;
+mod refusal;
+mod regions;
+mod terminals;
 
+pub use channel::Channel;
 pub use classes::{Classes, Graph, classify};
-pub use nets::{Nets, NetsFault, find_nets};
+pub use network::{NetMap, network_of};
 pub use no_memory::NoMemory;
+pub use plain::{PlainFault, extract_plain};
+pub use refusal::{ExtractCode, ExtractFault, ReadChipFault};
 
+#[cfg(test)]
+mod network_tests;
+#[cfg(test)]
+mod regions_tests;
 #[cfg(test)]
 mod tests;

@@ -1,46 +1,24 @@
 // The nets of a drawing.
 
-ghost use Rattle.std.specs.Prelude.{◌≡◌, ◌<◌, ◌≤◌, ◌+◌, ◌*◌, ◌^◌, ℕ, IfOk, IfSome, OnOk, IsErrOf, Some, length, ℤ, pos, neg_ℤ, ◌-ℤ◌, ◌≤ℤ◌};
-ghost use Rattle.geom.specs.Squares.{Covered};
-ghost use Rattle.nmos_model.specs.Extents.{IsTooWide};
+ghost use Rattle.std.specs.Prelude.{◌≡◌, ◌<◌, ◌+◌, ◌*◌, ◌^◌, ℕ, List, IfOk, IfSome, length, ℤ, pos, neg_ℤ, ◌-ℤ◌, ◌≤ℤ◌};
+ghost use Rattle.geom.specs.declared.layer.Layer.{Layer};
+ghost use Rattle.geom.specs.Squares.{BoxShape, Covered};
 ghost use Rattle.nmos_model.specs.NetMaps.{conductor, counted, net_count, net_of};
 ghost use Rattle.nmos_model.specs.Nets.{AreNets};
-ghost use Rattle.nmos_model.specs.Rasters.{number_of};
+ghost use Rattle.nmos_model.specs.Rasters.{Shows, number_of};
 
 use crate::classes::{Classes, classify};
 use crate::conductors::Conductors;
-use crate::frame::frame_of;
+use crate::network::NetMap;
 use crate::no_memory::NoMemory;
-use crate::raster::{Frame, painted};
-use geom::{Box2, Layer, merge_runs};
+use crate::raster::{Cover, Frame};
+use geom::Layer;
 use std::alloc::Global;
 use std::marker::Model;
-use thiserror::Error;
-
-/// Why the nets of a drawing are not found.
-#[derive(Clone, Copy, Debug, PartialEq, Eq, Error)]
-pub enum NetsFault {
-    /// The least rectangle round all boxes has more than 4,000,000 squares.
-    #[error("the drawing is too wide")]
-    TooWide,
-    /// An allocation was refused.
-    #[error("no memory")]
-    NoMemory,
-}
-
-impl From<NoMemory> for NetsFault {
-    ghost use Rattle.nmos_model.specs.declared.nets.NetsFault.TheVariants as fault;
-
-    ghost from_gives = { λ _ e. e ≡ fault.NoMemory };
-
-    fn from(_refused: NoMemory) -> NetsFault {
-        NetsFault::NoMemory
-    }
-}
 
 /// The nets of a drawing, numbered from 0, and the net of each conducting square.
 #[derive(Drop)]
-pub struct Nets {
+pub(crate) struct Nets {
     frame: Frame,
     classes: Classes,
 }
@@ -53,43 +31,38 @@ impl Model for Nets {
 
     ghost view = { λ n. record { frame = n.frame; classes = n.classes } };
 
-    ghost invariant = { λ n. (length n.classes.numbers ≡ 3 * (n.frame.width * n.frame.height)) × (length n.classes.numbers < 2 ^ 32) };
+    ghost invariant = { λ n. (length n.classes.numbers ≡ 3 * (n.frame.width * n.frame.height)) × (length n.classes.numbers < 2 ^ 32) × (length n.classes.firsts < 2 ^ 32) };
 }
 
-/// The nets of the boxes. A square of metal or poly conducts, and one of diffusion where no poly lies over it. Squares of one
+/// The nets of the squares. A square of metal or poly conducts, and one of diffusion where no poly lies over it. Squares of one
 /// layer that share a side are of one net, and so are two layers of a square under a cut. Takes time and memory in proportion
-/// to the squares of the least rectangle round the boxes, beside what merging the boxes takes.
+/// to the squares.
 ///
 /// # Errors
 ///
-/// `TooWide` exactly where the least rectangle round the boxes has more than 4,000,000 squares; `NoMemory` where an
-/// allocation was refused.
-pub fn find_nets(alloc: Global, boxes: &[Box2]) -> Result<Nets, NetsFault>
-    ensures nets { IfOk result (λ nets. AreNets (Covered boxes.now) (net_count nets) (net_of nets)) }
-    ensures narrow { OnOk result (IsTooWide boxes.now → ⊥) }
-    ensures wide { IsErrOf result NetsFault.TooWide → IsTooWide boxes.now }
+/// `NoMemory` where an allocation was refused.
+pub(crate) fn nets_of(alloc: Global, frame: Frame, squares: Vec<Cover>) -> Result<Nets, NoMemory>
+    requires shows { (boxes : List BoxShape) × Shows frame squares.items (Covered boxes) }
+    requires few { 3 * (length squares.items + frame.width + 1) < 2 ^ 32 }
+    ensures { (boxes : List BoxShape) → Shows frame squares.items (Covered boxes) → IfOk result (λ nets. AreNets (Covered boxes) (net_count nets) (net_of nets)) }
 {
-    let Some(frame) = frame_of(boxes) else {
-        return Err(NetsFault::TooWide);
-    };
-    let Ok(merged) = merge_runs(alloc, boxes) else {
-        return Err(NetsFault::NoMemory);
-    };
-    let squares = painted(alloc, frame, &merged)?;
     let classes = classify(alloc, &Conductors::new(frame.width, squares))?;
     Ok(Nets { frame, classes })
 }
 
 impl Nets {
     /// How many nets there are.
-    pub fn count(&self) -> usize
+    pub(crate) fn count(&self) -> u32
         ensures { result ≡ net_count self.now }
     {
-        self.classes.firsts().len()
+        self.classes.firsts().len() as u32
     }
+}
 
-    /// The net of the square in this layer, if it conducts there.
-    pub fn net_at(&self, layer: Layer, x: i64, y: i64) -> Option<u32>
+impl NetMap for Nets {
+    ghost net = { net_of };
+
+    fn net_at(&self, layer: Layer, x: i64, y: i64) -> Option<u32>
         ensures { result ≡ net_of self.now layer x y }
     {
         let layer = conductor(layer)?;

@@ -1,0 +1,6 @@
+use Rattle.std.proofs.Common.{◌≡◌, ℕ, ◌<◌, ◌≤◌, true}
+use Rattle.nmos_model.specs.Regions.{is_channel, cover_in}
+use Rattle.nmos_model.proofs.regions.end_of_row.Given as goal
+
+abbrev pub invariant-loop-at : goal.invariant-loop-at
+invariant-loop-at l = (at : ℕ) → l.column ≤ at → at < l.at → is_channel (cover_in l.squares at l.row) ≡ true
