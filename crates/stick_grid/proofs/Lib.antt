@@ -3,3 +3,17 @@ mod Filled
 mod Turned
 mod Beside
 mod Above
+mod Plans
+mod Places
+mod Rectangles
+mod TileChannels
+mod Listed
+mod Borders
+mod Lifted
+mod Neighbours
+mod Assembly
+mod Numbering
+mod Exits
+mod PieceLinks
+mod FloodedPieces
+mod NetsOfTilings

@@ -10,7 +10,8 @@ use Rattle.geom.specs.Turns.{moved}
 use Rattle.micro_tiles.specs.Boxes.{IsInTile}
 use Rattle.micro_tiles.specs.Table.{boxes}
 use Rattle.stick_grid.specs.Tilings.{Tiling, tile_at}
-use Rattle.stick_grid.specs.Drawings.{CoveredAt, CoveredIn, Adds}
+use Rattle.stick_grid.specs.Drawings.{CoveredFrom, Adds}
+use Rattle.stick_grid.specs.Plans.{plan_of, Covers}
 
 abbrev pub straight : Orient
 straight = record { swap = false; neg_x = false; neg_y = false }
@@ -67,6 +68,10 @@ next_is (y ∷ ys) (suc i) x e = ap (λ l. y ∷ l) (next_is ys i x e)
 pub one_more : {X : Type 0} (xs : List X) (i : ℕ) (x : X) → slice_get xs i ≡ Some x → take (i + 1) xs ≡ take i xs ++ x ∷ []
 one_more xs i x e = let next : suc i ≡ i + 1 = omega arith in subst (λ n. take n xs ≡ take i xs ++ x ∷ []) next (next_is xs i x e)
 
+-- The tile in this row and column covers the square.
+abbrev CoveredAt : Tiling → ℕ → ℕ → Layer → ℤ → ℤ → Type 0
+CoveredAt tiling row col = CoveredFrom (boxes (tile_at tiling row col)) col (tiling.rows - 1 - row)
+
 -- Some of the first so many tiles, row by row, covers the square.
 pub record CoveredBefore (tiling : Tiling) (n : ℕ) (layer : Layer) (x y : ℤ) : Type 0 where
   pub row : ℕ
@@ -102,7 +107,7 @@ pub row_below : (row col rows cols : ℕ) → col < cols → row * cols + col < 
 row_below row col rows cols small h = subst (λ r. r < rows) (div-mul-add row cols col small) (div_below (row * cols + col) cols rows (omega arith) h)
 
 pub draws_all : (tiling : Tiling) (n : ℕ) (drawn : List BoxShape) → n ≡ tiling.rows * tiling.cols → Draws tiling n drawn
-    → (layer : Layer) (x y : ℤ) → Covered drawn layer x y ↔ CoveredIn tiling layer x y
+    → (layer : Layer) (x y : ℤ) → Covered drawn layer x y ↔ Covers (plan_of tiling) layer x y
 draws_all tiling n drawn all draws layer x y = (
   λ h.
       let b = (draws layer x y).0 h in

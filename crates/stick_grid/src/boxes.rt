@@ -5,7 +5,8 @@ ghost use Rattle.geom.specs.declared.layer.Layer.{Layer};
 ghost use Rattle.geom.specs.Squares.{Inside, Covered};
 ghost use Rattle.micro_tiles.specs.Boxes.{IsInTile};
 ghost use Rattle.micro_tiles.specs.Table.{boxes};
-ghost use Rattle.stick_grid.specs.Drawings.{CoveredIn, Adds};
+ghost use Rattle.stick_grid.specs.Drawings.{Adds};
+ghost use Rattle.stick_grid.specs.Plans.{plan_of, Covers};
 
 use crate::grid::Grid;
 use crate::no_memory::NoMemory;
@@ -29,7 +30,7 @@ impl Grid {
     ///
     /// `NoMemory` where an allocation was refused.
     pub fn boxes(&self, alloc: Global) -> Result<Vec<Box2>, NoMemory>
-        ensures { IfOk result (λ drawn. (layer : Layer) (x y : ℤ) → Covered drawn.items layer x y ↔ CoveredIn self.now layer x y) }
+        ensures { IfOk result (λ drawn. (layer : Layer) (x y : ℤ) → Covered drawn.items layer x y ↔ Covers (plan_of self.now) layer x y) }
     {
         let (rows, cols) = (self.rows(), self.cols());
         let mut drawn = Vec::new(alloc);

@@ -62,6 +62,7 @@ impl Grid {
     pub(crate) fn size(&self) -> usize
         ensures number { result ≡ self.now.rows * self.now.cols }
         ensures few { result ≤ 2 ^ 40 }
+        ensures tiling { IsTiling self.now }
     {
         self.tiles.len()
     }

@@ -19,3 +19,9 @@ impl<T: Drop> From<AllocFailed<T>> for NoMemory {
         NoMemory
     }
 }
+
+impl From<nmos_model::NoMemory> for NoMemory {
+    fn from(_refused: nmos_model::NoMemory) -> NoMemory {
+        NoMemory
+    }
+}

@@ -9,7 +9,7 @@ loop-before-init c = rw c.new-tiles.ensures.items (fill_none c.rows-cols.result 
 
 pub loop-before-preserved : goal.loop-before-preserved
 loop-before-preserved c =
-    let turned : Turned c.args.self.now c.place_of-at.result.row c.place_of-at.result.col c.transposed.result = rw (← c.tile_at.ensures) (c.transposed.ensures.number, c.transposed.ensures.ports) in
+    let turned : Turned c.args.self.now c.place_of-at.result.row c.place_of-at.result.col c.transposed.result = rw (← c.tile_at.ensures) (c.transposed.ensures.number, c.transposed.ensures.known, c.transposed.ensures.ports) in
     rw c.in_ok-push.ensures.items
     (fill_more c.rows-cols.result c.loop-before.before (Turned c.args.self.now) c.loop-before.tiles.items c.place_of-at.result.row c.place_of-at.result.col c.transposed.result
     c.place_of-at.ensures.number c.place_of-at.ensures.is_col turned c.loop-before.invariant)
