@@ -19,6 +19,10 @@ pub record LosesUpTo (old new : Option (List ℕ)) (most : ℕ) : Type 0 where
   pub consumes : Consumes old new front
   pub within : length front ≤ most
 
+-- how many bytes one read of a whole source asks for
+abbrev pub read_size : ℕ
+read_size = 65536
+
 -- known bytes lose a front of more than this many, by at most so many
 pub record LosesBeyond (old new : Option (List ℕ)) (most more : ℕ) : Type 0 where
   pub front : List ℕ

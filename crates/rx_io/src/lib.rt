@@ -10,7 +10,7 @@ mod writing;
 
 pub use faults::{Failed, NoMemory, ReadAllFault};
 pub use memory::{MemSink, MemSource};
-pub use reading::{READ_SIZE, Source, read_all};
+pub use reading::{Source, read_all};
 pub use standard::{StdSink, StdSource};
 pub use writing::{Sink, put_all};
 

@@ -3,7 +3,7 @@ ghost use Rattle.std.specs.Prelude.{◌≡◌, ◌≤◌, ℕ, List, IfOk, OnErr
 ghost use Rattle.std.specs.Io.KnownBytes.{Consumes, IsAtEnd, ReadConsumes};
 ghost use Rattle.std.specs.Io.{ReadsAtMost};
 ghost use Rattle.rx_io.specs.Causes.{Rose};
-ghost use Rattle.rx_io.specs.Streams.{GivesAll, IsLongerThan, LosesBeyond, LosesUpTo};
+ghost use Rattle.rx_io.specs.Streams.{GivesAll, IsLongerThan, LosesBeyond, LosesUpTo, read_size};
 
 use crate::{Failed, ReadAllFault};
 use std::alloc::{AllocError, Global};
@@ -22,23 +22,25 @@ pub trait Source {
         ensures bound { ReadsAtMost result buf.new }
         ensures bytes { ReadConsumes (left self.old) (left self.new) result buf.new }
         ensures count { faults self.old ≤ faults self.new }
-        ensures cause { OnErr result (Rose (faults self.old) (faults self.new)) };
+        ensures cause { OnErr result (Rose (faults self.old) (faults self.new)) }
+        ensures steady { OnOk result (faults self.new ≡ faults self.old) };
 }
 
 /// How many bytes `read_all` asks of a source at a time.
-pub const READ_SIZE: usize = 65_536;
+const READ_SIZE: usize = 65_536;
 
 /// Reads a source to its end, and answers all its bytes.
 ///
 /// `TooLong` comes where more than `most` bytes came before an end or a failure; the source has then
-/// lost at most `READ_SIZE` bytes more than `most`. At `Failed` and `NoMemory` it has lost at most
-/// `most` bytes. `Failed` comes only where the source failed in this call.
+/// lost at most 65,536 bytes more than `most`. At `Failed` and `NoMemory` it has lost at most
+/// `most` bytes. `Failed` comes only where the source failed in this call, and at every other answer
+/// it did not fail.
 pub fn read_all<S: Source>(alloc: Global, src: &mut S, most: u64) -> Result<Vec<u8>, ReadAllFault>
     ensures ok { IfOk result (λ bytes. Consumes (S.left src.old) (S.left src.new) bytes.items) }
     ensures end { OnOk result (IsAtEnd (S.left src.new)) }
     ensures within { IfOk result (λ bytes. vec_len bytes ≤ most) }
     ensures too_long { IsErrOf result ReadAllFault.TooLong
-        → LosesBeyond (S.left src.old) (S.left src.new) most READ_SIZE }
+        → LosesBeyond (S.left src.old) (S.left src.new) most read_size }
     ensures failed { IsErrOf result ReadAllFault.Failed
         → LosesUpTo (S.left src.old) (S.left src.new) most }
     ensures no_memory { IsErrOf result ReadAllFault.NoMemory
@@ -52,6 +54,9 @@ pub fn read_all<S: Source>(alloc: Global, src: &mut S, most: u64) -> Result<Vec<
     ensures count { S.faults src.old ≤ S.faults src.new }
     ensures cause { IsErrOf result ReadAllFault.Failed
         → Rose (S.faults src.old) (S.faults src.new) }
+    ensures steady { OnOk result (S.faults src.new ≡ S.faults src.old) }
+    ensures steady_too_long { IsErrOf result ReadAllFault.TooLong → S.faults src.new ≡ S.faults src.old }
+    ensures steady_no_memory { IsErrOf result ReadAllFault.NoMemory → S.faults src.new ≡ S.faults src.old }
 {
     let mut buffer = read_buffer(alloc)?;
     let mut bytes = Vec::new(alloc);
@@ -69,7 +74,7 @@ pub fn read_all<S: Source>(alloc: Global, src: &mut S, most: u64) -> Result<Vec<
 
 /// Zeros for a read to write over. It stands apart so that no other proof meets so long a list.
 fn read_buffer(alloc: Global) -> Result<Vec<u8>, AllocError>
-    ensures { IfOk result (λ buffer. vec_len buffer ≡ READ_SIZE) }
+    ensures { IfOk result (λ buffer. vec_len buffer ≡ read_size) }
 {
     vec![in alloc; 0; READ_SIZE]
 }

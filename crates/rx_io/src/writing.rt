@@ -1,5 +1,5 @@
 //! Sinks, and what writes to them.
-ghost use Rattle.std.specs.Prelude.{◌≤◌, ℕ, List, OnErr, OnOk, Option};
+ghost use Rattle.std.specs.Prelude.{◌≡◌, ◌≤◌, ℕ, List, OnErr, OnOk, Option};
 ghost use Rattle.std.specs.Io.KnownBytes.{Appends, WriteAppends};
 ghost use Rattle.std.specs.Io.{WritesAtMost};
 ghost use Rattle.rx_io.specs.Causes.{Rose};
@@ -22,7 +22,8 @@ pub trait Sink {
         ensures some { TakesSome result piece.now }
         ensures bytes { WriteAppends (held self.old) (held self.new) result piece.now }
         ensures count { faults self.old ≤ faults self.new }
-        ensures cause { OnErr result (Rose (faults self.old) (faults self.new)) };
+        ensures cause { OnErr result (Rose (faults self.old) (faults self.new)) }
+        ensures steady { OnOk result (faults self.new ≡ faults self.old) };
 }
 
 /// Writes the whole piece, in as many calls as the sink needs. Where a call fails, the sink has taken
@@ -32,6 +33,7 @@ pub fn put_all<K: Sink>(sink: &mut K, piece: &[u8]) -> Result<(), Failed>
     ensures err { OnErr result (AppendsFront (K.held sink.old) (K.held sink.new) piece.now) }
     ensures count { K.faults sink.old ≤ K.faults sink.new }
     ensures cause { OnErr result (Rose (K.faults sink.old) (K.faults sink.new)) }
+    ensures steady { OnOk result (K.faults sink.new ≡ K.faults sink.old) }
 {
     let mut taken = 0;
     while taken < piece.len() {

@@ -1,7 +1,8 @@
-//! Names, places in a text, the names of a circuit's pads, and decimal text.
+//! Names, places in a text, the names of a circuit's pads, decimal text, and want of memory.
 #![tactic(auto)]
 
 pub mod name;
+mod no_memory;
 pub mod number;
 pub mod number_text;
 pub mod pad_name;
@@ -10,6 +11,7 @@ pub mod place;
 mod tests;
 
 pub use name::Name;
+pub use no_memory::NoMemory;
 pub use number::{NumberFault, read_number};
 pub use number_text::NumberText;
 pub use pad_name::{PadName, Role};

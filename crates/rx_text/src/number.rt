@@ -24,11 +24,13 @@ pub enum NumberFault {
 ///
 /// # Errors
 ///
-/// `BadNumber` where no digit stands there, `NumberTooLarge` where the number exceeds `most`.
+/// `BadNumber` where no digit stands there, as beyond the end of the text, `NumberTooLarge` where the number exceeds `most`.
 pub fn read_number(text: &[u8], at: usize, most: u64) -> Result<(u64, usize), NumberFault>
-    requires { at ≤ length text.now }
     ensures { result ≡ number_at text.now at most }
 {
+    if at > text.len() {
+        return Err(NumberFault::BadNumber);
+    }
     let digits = digits_at(text, at);
     if digits.is_empty() {
         return Err(NumberFault::BadNumber);

@@ -1,7 +1,6 @@
 -- How a run of a command ends, by what it read and wrote.
 use Rattle.std.specs.Prelude.{◌≡◌, ◌≤◌, ℕ, Bool, true, false, not, List, Option, length, ⊤, ◌⊎◌}
-use Rattle.rx_io.specs.Streams.{GivesAll, LosesBeyond}
-use Rattle.rx_io.specs.declared.reading.TheConstants.{READ_SIZE}
+use Rattle.rx_io.specs.Streams.{GivesAll, LosesBeyond, read_size}
 use Rattle.rx_text.specs.declared.place.Place.{Place}
 use Rattle.rx_text.specs.declared.place.Place.TheVariants.{Whole}
 use Rattle.rxc_program.specs.Inputs.{most_input_bytes, Breaks, StandsFor}
@@ -28,7 +27,7 @@ pub record IsServed (command : Command) (left_old left_new : Option (List ℕ)) 
 -- The source gave too many bytes, and was left soon after them; or it gave an input to its end that breaks a condition.
 abbrev pub Refuses : Command → (left_old left_new : Option (List ℕ)) → Code → Place → Type 0
 Refuses command left_old left_new code place =
-    ((code ≡ I1) × (place ≡ Whole) × LosesBeyond left_old left_new most_input_bytes READ_SIZE)
+    ((code ≡ I1) × (place ≡ Whole) × LosesBeyond left_old left_new most_input_bytes read_size)
     ⊎ ((text : List ℕ) × GivesAll left_old left_new text × (length text ≤ most_input_bytes) × Breaks command text code place)
 
 -- There was no memory, or the input is refused for this reason.

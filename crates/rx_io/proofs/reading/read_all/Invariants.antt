@@ -8,7 +8,7 @@ invariant-loop-bytes g l = record {
   gathered : Consumes (g.S.Source.left l.fn.src) (g.S.Source.left l.src) l.bytes.items;
   within : vec_len l.bytes ≤ l.most;
   room : vec_len l.buffer ≡ 65536;
-  count : g.S.Source.faults l.fn.src ≤ g.S.Source.faults l.src;
+  count : g.S.Source.faults l.src ≡ g.S.Source.faults l.fn.src;
 }
 
 abbrev pub decreases-loop-bytes : goal.decreases-loop-bytes
