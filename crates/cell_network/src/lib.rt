@@ -8,8 +8,6 @@ pub mod numbering;
 pub mod part;
 pub mod part_net;
 pub mod shapes;
-#[cfg(test)]
-mod tests;
 pub mod whole;
 
 pub use part::node_part;

@@ -13,8 +13,6 @@ mod row_tree;
 mod span;
 mod stacking;
 mod sweep;
-#[cfg(test)]
-mod tests;
 
 pub use chip::{Call, Chip, Kind, Label, Rect};
 pub use layer::Layer;

@@ -22,6 +22,3 @@ pub use ports::port;
 pub use side::{Port, Side};
 pub use table::{BASIC, BASICS, NO_ARMS};
 pub use tile::{TILES, Tile, transposed};
-
-#[cfg(test)]
-mod tests;

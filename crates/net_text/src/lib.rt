@@ -22,8 +22,3 @@ pub use laws::{refusals_stand_in_the_text, text_is_of_one_network, texts_are_net
 pub use net_fault::{NetCode, NetFault, ReadNetFault};
 pub use reading::read_net;
 pub use writing::write_net;
-
-#[cfg(test)]
-mod reading_tests;
-#[cfg(test)]
-mod tests;

@@ -31,4 +31,3 @@ pub mod Roles
 pub mod ChannelDevices
 pub mod Circuits
 pub mod NearChannels
-pub mod SampleNets

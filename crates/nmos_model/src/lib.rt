@@ -27,10 +27,3 @@ pub use network::{NetMap, network_of};
 pub use no_memory::NoMemory;
 pub use plain::{PlainFault, extract_plain};
 pub use refusal::{ExtractCode, ExtractFault, ReadChipFault};
-
-#[cfg(test)]
-mod network_tests;
-#[cfg(test)]
-mod regions_tests;
-#[cfg(test)]
-mod tests;

@@ -9,8 +9,6 @@ pub mod netlist;
 pub mod no_memory;
 pub mod part;
 pub mod switch_form;
-#[cfg(test)]
-mod tests;
 
 pub use evaluation::step;
 pub use examples::register_shows;

@@ -13,6 +13,3 @@ pub use memory::{MemSink, MemSource};
 pub use reading::{Source, read_all};
 pub use standard::{StdSink, StdSource};
 pub use writing::{Sink, put_all};
-
-#[cfg(test)]
-mod tests;

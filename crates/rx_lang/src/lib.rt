@@ -10,8 +10,6 @@ pub mod pattern;
 pub mod spec;
 pub mod spelling;
 pub mod symbol;
-#[cfg(test)]
-mod tests;
 pub mod vector;
 mod wrapped;
 

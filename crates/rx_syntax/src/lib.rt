@@ -10,22 +10,14 @@ mod lexeme;
 mod machine;
 mod names;
 mod naming;
-#[cfg(test)]
-mod naming_tests;
 mod no_memory;
 mod node_builder;
 mod node_table;
 mod nodes;
 mod print;
 pub mod print_examples;
-#[cfg(test)]
-mod print_tests;
 pub mod read;
-#[cfg(test)]
-mod read_tests;
 pub mod shape;
-#[cfg(test)]
-mod shape_tests;
 mod spec_code;
 mod use_kind;
 

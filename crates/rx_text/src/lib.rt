@@ -7,8 +7,6 @@ pub mod number;
 pub mod number_text;
 pub mod pad_name;
 pub mod place;
-#[cfg(test)]
-mod tests;
 
 pub use name::Name;
 pub use no_memory::NoMemory;

@@ -9,8 +9,6 @@ pub mod no_memory;
 pub mod node;
 pub mod normal_form;
 mod nullable;
-#[cfg(test)]
-mod tests;
 mod tops;
 pub mod tree;
 

@@ -2,21 +2,15 @@
 #![tactic(auto)]
 
 pub mod boxes;
-#[cfg(test)]
-mod channel_tests;
 mod channels;
 pub mod grid;
 pub mod joining;
 pub mod laws;
 mod nets;
 mod network;
-#[cfg(test)]
-mod network_tests;
 pub mod no_memory;
 mod piece_graph;
 mod place;
-#[cfg(test)]
-mod tests;
 
 pub use grid::Grid;
 pub use network::grid_network;

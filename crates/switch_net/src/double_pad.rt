@@ -60,6 +60,3 @@ pub fn first_double_pad(alloc: Global, pads: &[Pad]) -> Result<Option<u32>, NoMe
     }
     Ok(None)
 }
-
-#[cfg(test)]
-mod tests;

@@ -231,6 +231,3 @@ fn has_role(pads: &[Pad], role: Role) -> bool
 pub fn faultless_is_network()
     ensures { FaultlessIsNetwork }
 {}
-
-#[cfg(test)]
-mod tests;

@@ -20,6 +20,3 @@ pub use run::{RunFault, run_trace};
 pub use sim::Sim;
 pub use trace::{Trace, read_trace};
 pub use trace_code::{ReadTraceFault, TraceCode, TraceFault};
-
-#[cfg(test)]
-mod tests;
