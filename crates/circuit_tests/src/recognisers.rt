@@ -173,32 +173,44 @@ fn lines_of(alloc: Global, shown: &str) -> Result<String, Fail> {
     Ok(lines)
 }
 
+/// The cells of the specification.
+fn net_of(alloc: Global, spec: &Spec) -> Result<NorNet, Fail> {
+    let tree = normalize(alloc, spec)?;
+    Ok(cells(alloc, &tree, spec)?)
+}
+
+/// The outputs by the meaning of the expressions and by the values of the gates, and the lines of the transistors.
+fn shown(alloc: Global, text: &str, vectors: &str) -> Result<(String, String, Vec<u8>), Fail> {
+    let spec = specification(alloc, text)?;
+    let word = word(alloc, vectors)?;
+    let net = net_of(alloc, &spec)?;
+    let by_meaning = by_meaning(alloc, &spec, &word)?;
+    let by_gates = by_gates(alloc, &net, &word)?;
+    Ok((by_meaning, by_gates, by_transistors(alloc, &net, vectors)?))
+}
+
 #[test]
 fn shows_the_languages(rt: HostRuntime) -> Result<(), Fail> {
-    let alloc = rt.alloc();
-    for (text, vectors, shown) in SHOWN {
-        let spec = specification(alloc, text)?;
-        let word = word(alloc, vectors)?;
-        let tree = normalize(alloc, &spec)?;
-        let net = cells(alloc, &tree, &spec)?;
-        assert_eq!(rt; by_meaning(alloc, &spec, &word)?.as_str(), *shown, "{text}");
-        assert_eq!(rt; by_gates(alloc, &net, &word)?.as_str(), *shown, "{text}");
-        let lines = by_transistors(alloc, &net, vectors)?;
-        assert_eq!(rt;
-            lines.as_slice(),
-            lines_of(alloc, shown)?.as_bytes(),
-            "{text}"
-        );
+    for (text, vectors, wanted) in SHOWN {
+        let (by_meaning, by_gates, lines) = shown(rt.alloc(), text, vectors)?;
+        assert_eq!(rt; by_meaning.as_str(), *wanted, "{text}");
+        assert_eq!(rt; by_gates.as_str(), *wanted, "{text}");
+        let wanted = lines_of(rt.alloc(), wanted)?;
+        assert_eq!(rt; lines.as_slice(), wanted.as_bytes(), "{text}");
     }
     Ok(())
 }
 
-/// Whether the statement of the specification spells each front.
-fn spelled_fronts(alloc: Global, spec: &Spec, word: &[Vector]) -> Result<String, Fail> {
+/// Whether the expression spells each front.
+fn spelled(alloc: Global, expression: &str, vectors: &str) -> Result<String, Fail> {
+    let head = "line x; symbol a = 1; symbol b = 0; output z; expr";
+    let text = format!(in alloc; "{head} {expression};")?;
+    let spec = specification(alloc, text.as_str())?;
+    let word = word(alloc, vectors)?;
     let mut spelled = String::new(alloc);
     for root in spec.exprs() {
         for length in 0..=word.len().min(100) {
-            spelled.push(bit(accepts(spec, *root, &word[..length])))?;
+            spelled.push(bit(accepts(&spec, *root, &word[..length])))?;
         }
     }
     Ok(spelled)
@@ -206,18 +218,9 @@ fn spelled_fronts(alloc: Global, spec: &Spec, word: &[Vector]) -> Result<String,
 
 #[test]
 fn spells_words(rt: HostRuntime) -> Result<(), Fail> {
-    let alloc = rt.alloc();
-    for (expression, vectors, spelled) in SPELLED {
-        let text = format!(in alloc;
-            "line x; symbol a = 1; symbol b = 0; output z; expr {expression};"
-        )?;
-        let spec = specification(alloc, text.as_str())?;
-        let word = word(alloc, vectors)?;
-        assert_eq!(rt;
-            spelled_fronts(alloc, &spec, &word)?.as_str(),
-            *spelled,
-            "{expression}"
-        );
+    for (expression, vectors, wanted) in SPELLED {
+        let found = spelled(rt.alloc(), expression, vectors)?;
+        assert_eq!(rt; found.as_str(), *wanted, "{expression}");
     }
     Ok(())
 }

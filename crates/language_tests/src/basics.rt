@@ -44,6 +44,7 @@ const NUMBERS: &[(&str, usize, u64, Result<(u64, usize), NumberFault>)] = &[
     ("041;", 0, 40, Err(NumberFault::NumberTooLarge)),
     ("041;", 3, 41, Err(NumberFault::BadNumber)),
     ("041;", 4, 41, Err(NumberFault::BadNumber)),
+    ("041;", 5, 41, Err(NumberFault::BadNumber)),
     ("041;", 2, 41, Ok((1, 3))),
     ("0", 0, 0, Ok((0, 1))),
     ("18446744073709551615x", 0, u64::MAX, Ok((u64::MAX, 20))),
@@ -88,7 +89,6 @@ fn finds_lines_and_columns(rt: HostRuntime) {
 #[test]
 fn reads_numbers_up_to_a_most(rt: HostRuntime) {
     for (text, at, most, wanted) in NUMBERS {
-        assert!(rt; *at <= text.len());
         assert_eq!(rt;
             read_number(text.as_bytes(), *at, *most),
             *wanted,

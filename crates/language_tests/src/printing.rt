@@ -2,6 +2,7 @@
 
 use crate::rows::{expanded, read};
 use rx_syntax::print_spec;
+use std::alloc::Global;
 use std::test::Fail;
 
 /// The whole printed text.
@@ -49,12 +50,18 @@ const EXPRESSIONS: &[(&str, &str)] = &[
     ),
 ];
 
+/// The text, expanded, is read and printed.
+fn printed(alloc: Global, text: &str) -> Result<Vec<u8>, Fail> {
+    let text = expanded(alloc, text)?;
+    let spec = read(alloc, text.as_str(), 4096)??;
+    Ok(print_spec(alloc, &spec)?)
+}
+
 #[test]
 fn prints_what_was_read(rt: HostRuntime) -> Result<(), Fail> {
-    for (text, printed) in WHOLE {
-        let spec = read(rt.alloc(), text, 4096)??;
+    for (text, wanted) in WHOLE {
         assert!(rt;
-            print_spec(rt.alloc(), &spec)?.as_slice() == printed.as_bytes(),
+            printed(rt.alloc(), text)?.as_slice() == wanted.as_bytes(),
             "{text}"
         );
     }
@@ -64,12 +71,14 @@ fn prints_what_was_read(rt: HostRuntime) -> Result<(), Fail> {
 #[test]
 fn prints_parentheses_where_they_are_needed(rt: HostRuntime) -> Result<(), Fail> {
     let head = "line x;\nsymbol a = 1;\nsymbol b = 0;\noutput y z;\n";
-    for (text, printed) in EXPRESSIONS {
-        let text = format!(in rt.alloc(); "{head}{}", expanded(rt.alloc(), text)?)?;
-        let wanted = format!(in rt.alloc(); "{head}{}", expanded(rt.alloc(), printed)?)?;
-        let spec = read(rt.alloc(), text.as_str(), 4096)??;
+    for (text, wanted) in EXPRESSIONS {
+        let text = format!(in rt.alloc(); "{head}{text}")?;
+        let wanted = expanded(
+            rt.alloc(),
+            format!(in rt.alloc(); "{head}{wanted}")?.as_str(),
+        )?;
         assert!(rt;
-            print_spec(rt.alloc(), &spec)?.as_slice() == wanted.as_bytes(),
+            printed(rt.alloc(), text.as_str())?.as_slice() == wanted.as_bytes(),
             "{text}"
         );
     }

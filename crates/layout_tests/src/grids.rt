@@ -1,10 +1,16 @@
 //! Grids of tiles, their boxes, and the networks that they stand for: by their squares, and by the nets of their tiles.
 
+ghost use Rattle.std.specs.Prelude.{◌≡◌, is_some};
+ghost use Rattle.rx_text.specs.Role.{bears_name};
+ghost use Rattle.nmos_model.specs.Pads.{AreNamed};
+
 use crate::circuits::{fault_text, network_text};
 use crate::laid::laid;
 use crate::shapes::{shapes, text_of};
 use geom::Label;
 use nmos_model::extract_plain;
+use nmos_model::laws::drawings_are_networks_or_refused;
+use rx_text::PadName;
 use std::alloc::Global;
 use std::test::Fail;
 use stick_grid::{Grid, grid_network};
@@ -162,17 +168,41 @@ const WHOLE: &[(&str, &str, &str)] = &[
 /// Labels that stand in front of those of each row.
 const GRIDS: &[(&str, &[(&str, &str, &str)])] = &[(FOUR, NETWORKS), ("", WHOLE)];
 
-/// What the grid comes to with these labels, by its squares, and by its tiles where its squares stand for a network.
-fn by_both(alloc: Global, grid: &Grid, labels: &[Label]) -> Result<(String, String), Fail> {
+/// The type of pad names keeps a name as the role asks.
+fn see_name(_pad: PadName)
+    ensures { bears_name _pad.role ≡ is_some _pad.name }
+{}
+
+fn see_names(labels: &[Label])
+    ensures { AreNamed labels.now }
+{
+    for label in labels {
+        see_name(label.pad);
+    }
+}
+
+/// The text that both are, or else both.
+fn agreed(alloc: Global, one: String, other: &String) -> Result<String, Fail> {
+    if one.as_str() == other.as_str() {
+        return Ok(one);
+    }
+    Ok(format!(in alloc; "{one} but {other}")?)
+}
+
+/// What the grid comes to with these labels, by its squares, and by its tiles too where its squares stand for a network.
+fn outcome(alloc: Global, grid: &Grid, labels: &[Label]) -> Result<String, Fail> {
+    drawings_are_networks_or_refused();
+    see_names(labels);
     let boxes = grid.boxes(alloc)?;
     match extract_plain(alloc, &boxes, labels) {
-        Err(fault) => Ok((fault_text(alloc, fault)?, fault_text(alloc, fault)?)),
+        Err(fault) => fault_text(alloc, fault),
         Ok(network) => {
             let by_tiles = grid_network(alloc, grid, labels)?;
-            Ok((
+            agreed(
+                alloc,
                 network_text(alloc, &network)?,
-                network_text(alloc, &by_tiles)?,
-            ))
+                &network_text(alloc, &by_tiles)?,
+            )
         }
     }
 }
@@ -192,45 +222,49 @@ fn mirrored(alloc: Global, grid: &Grid, labels: &[Label]) -> Result<Vec<Label>, 
     Ok(images)
 }
 
+/// What the grid of these tiles comes to with these labels, and its mirror image too where there is a network: a refusal stands
+/// at another place there.
+fn both_outcomes(alloc: Global, tiles: &str, labels: &str) -> Result<String, Fail> {
+    let grid = laid(alloc, tiles)?.ok_or("no grid")?;
+    let (_, labels) = shapes(alloc, labels)?;
+    let upright = outcome(alloc, &grid, &labels)?;
+    if !upright.as_str().contains("nets") {
+        return Ok(upright);
+    }
+    let images = mirrored(alloc, &grid, &labels)?;
+    let turned = outcome(alloc, &grid.transpose(alloc)?, &images)?;
+    agreed(alloc, upright, &turned)
+}
+
 #[test]
 fn grids_stand_for_networks(rt: HostRuntime) -> Result<(), Fail> {
-    let alloc = rt.alloc();
     for (front, rows) in GRIDS {
         for (tiles, behind, wanted) in rows.iter() {
-            let grid = laid(alloc, tiles)?.ok_or("no grid")?;
-            let text = format!(in alloc; "{front}; {behind}")?;
-            let (_, labels) = shapes(alloc, text.as_str())?;
-            let (by_squares, by_tiles) = by_both(alloc, &grid, &labels)?;
-            assert_eq!(rt; by_squares.as_str(), *wanted, "{tiles}: {behind}");
-            assert_eq!(rt; by_tiles.as_str(), *wanted, "{tiles}: {behind}");
-            // A refusal's place is another in the mirror image.
-            if wanted.contains("nets") {
-                let turned = grid.transpose(alloc)?;
-                let images = mirrored(alloc, &grid, &labels)?;
-                let (by_squares, by_tiles) = by_both(alloc, &turned, &images)?;
-                assert_eq!(rt;
-                    by_squares.as_str(),
-                    *wanted,
-                    "transposed {tiles}: {behind}"
-                );
-                assert_eq!(rt; by_tiles.as_str(), *wanted, "transposed {tiles}: {behind}");
-            }
+            let labels = format!(in rt.alloc(); "{front}; {behind}")?;
+            let found = both_outcomes(rt.alloc(), tiles, labels.as_str())?;
+            assert_eq!(rt; found.as_str(), *wanted, "{tiles}: {behind}");
         }
     }
     Ok(())
 }
 
+/// The boxes of the grid of these tiles, and those of its mirror image.
+fn drawn(alloc: Global, tiles: &str) -> Result<(String, String), Fail> {
+    let grid = laid(alloc, tiles)?.ok_or("no grid")?;
+    let boxes = text_of(alloc, &grid.boxes(alloc)?)?;
+    let image = grid.transpose(alloc)?;
+    Ok((boxes, text_of(alloc, &image.boxes(alloc)?)?))
+}
+
 #[test]
 fn draws_grids(rt: HostRuntime) -> Result<(), Fail> {
-    let alloc = rt.alloc();
-    for (tiles, drawn, turned) in DRAWN {
-        let grid = laid(alloc, tiles)?.ok_or("no grid")?;
-        assert_eq!(rt; text_of(alloc, &grid.boxes(alloc)?)?.as_str(), *drawn);
-        let image = grid.transpose(alloc)?;
-        assert_eq!(rt; text_of(alloc, &image.boxes(alloc)?)?.as_str(), *turned);
+    for (tiles, wanted, turned) in DRAWN {
+        let (boxes, images) = drawn(rt.alloc(), tiles)?;
+        assert_eq!(rt; boxes.as_str(), *wanted, "{tiles}");
+        assert_eq!(rt; images.as_str(), *turned, "{tiles}");
     }
     for tiles in APART {
-        assert!(rt; laid(alloc, tiles)?.is_none(), "{tiles}");
+        assert!(rt; laid(rt.alloc(), tiles)?.is_none(), "{tiles}");
     }
     Ok(())
 }
