@@ -4,7 +4,7 @@ use Rattle.rx_lang.specs.declared.pattern.PatternBit.{PatternBit}
 use Rattle.rx_lang.specs.declared.pattern.PatternBit.TheVariants.{Zero, One, Any}
 use Rattle.rx_lang.specs.declared.expr_node.ExprNode.TheVariants.{Leaf, Seq, Alt, Star, Mark}
 use Rattle.rx_lang.specs.Vector.{Bits}
-use Rattle.rx_lang.specs.Expression.{Expr, symbol, sequence, union, star, plus, optional, marked}
+use Rattle.rx_lang.specs.Expression.{Expr, symbol, sequence, union, star, plus, optional, marked, repeated}
 use Rattle.rx_lang.specs.Specification.{NamedPattern, Specification}
 use Rattle.rx_lang.specs.Tables.{Tables}
 
@@ -27,6 +27,7 @@ one_symbol statements = record {
   symbols = named (codes "a") (One ∷ []) ∷ [];
   outputs = codes "z" ∷ [];
   statements = statements;
+  scans = [];
 }
 
 -- line x; symbol a = 1; symbol b = 0; and these outputs and statements
@@ -36,6 +37,7 @@ one_and_zero outputs statements = record {
   symbols = named (codes "a") (One ∷ []) ∷ named (codes "b") (Zero ∷ []) ∷ [];
   outputs = outputs;
   statements = statements;
+  scans = [];
 }
 
 -- expr a !z;
@@ -49,6 +51,7 @@ last_symbol_marked = record {
   symbols = named (codes "a") (One ∷ Any ∷ []) ∷ named (codes "b") (Zero ∷ One ∷ []) ∷ [];
   outputs = codes "z" ∷ [];
   statements = sequence (star (union (symbol 0) (symbol 1))) (marked (symbol 0) 0) ∷ [];
+  scans = [];
 }
 
 -- expr (a? !z)*;
@@ -70,11 +73,29 @@ overlapping_symbols = record {
   symbols = named (codes "a") (One ∷ Any ∷ []) ∷ named (codes "b") (Any ∷ One ∷ []) ∷ [];
   outputs = codes "z" ∷ codes "v" ∷ [];
   statements = sequence (symbol 0) (marked (symbol 1) 0) ∷ sequence (symbol 1) (marked (symbol 0) 1) ∷ [];
+  scans = [];
 }
 
 -- expr a;
 abbrev pub unmarked_symbol : Specification
 unmarked_symbol = one_symbol (symbol 0 ∷ [])
+
+-- expr a{2,3} !z;
+abbrev pub counted_symbol : Specification
+counted_symbol = one_symbol (marked (repeated (symbol 0) 2 3) 0 ∷ [])
+
+-- expr (a !z){0,2} a{2,2};
+abbrev pub mark_in_repeat : Specification
+mark_in_repeat = one_symbol (sequence (repeated (marked (symbol 0) 0) 0 2) (repeated (symbol 0) 2 2) ∷ [])
+
+-- scan a b !z;
+abbrev pub scanned_pair : Specification
+scanned_pair = record one_and_zero (codes "z" ∷ []) [] { scans = sequence (symbol 0) (marked (symbol 1) 0) ∷ [] }
+
+-- expr b !y; scan a? !z;
+abbrev pub scanned_option : Specification
+scanned_option =
+    record one_and_zero (codes "y" ∷ codes "z" ∷ []) (marked (symbol 1) 0 ∷ []) { scans = marked (optional (symbol 0)) 1 ∷ [] }
 
 -- the tables of the specification whose last symbol is marked
 abbrev pub last_symbol_tables : Tables
@@ -84,6 +105,7 @@ last_symbol_tables = record {
   outputs = codes "z" ∷ [];
   nodes = Leaf 0 ∷ Leaf 1 ∷ Alt 0 1 ∷ Star 2 ∷ Leaf 0 ∷ Mark 4 0 ∷ Seq 3 5 ∷ [];
   exprs = 6 ∷ [];
+  scans = [];
 }
 
 -- tables in which a node is the child of two

@@ -1,13 +1,14 @@
 -- Expressions below the signs that stand on them.
-use Rattle.std.specs.Prelude.{◌≡◌, ◌⊎◌, IsTrue, ℕ, ◌+◌, ◌<◌, Bool, true, false, List, length, max}
+use Rattle.std.specs.Prelude.{◌≡◌, ◌≢◌, ◌⊎◌, IsTrue, ℕ, ◌+◌, ◌<◌, Bool, true, false, List, length, max}
 use Rattle.rx_lang.specs.declared.vector.Vector.{Vector}
 use Rattle.rx_lang.specs.declared.wrapped.Core.{Core}
-use Rattle.rx_lang.specs.declared.wrapped.Core.TheVariants.{Symbol, Sequence, Union}
+use Rattle.rx_lang.specs.declared.wrapped.Core.TheVariants.{Symbol, Sequence, Union, Repeat}
 use Rattle.rx_lang.specs.declared.wrapped.Layer.{Layer}
 use Rattle.rx_lang.specs.declared.wrapped.Layer.TheVariants.{Plain, Sign, Marked}
 use Rattle.rx_lang.specs.declared.expr_node.ExprNode.{ExprNode}
 use Rattle.rx_lang.specs.declared.expr_node.ExprNode.TheVariants.{Leaf, Seq, Alt, Star, Plus, Opt, Mark}
-use Rattle.rx_lang.specs.Expression.{Expr, symbol, sequence, union, star, plus, optional}
+use Rattle.rx_lang.specs.declared.expr_node.ExprNode.TheVariants as node
+use Rattle.rx_lang.specs.Expression.{Expr, symbol, sequence, union, star, plus, optional, repeated}
 use Rattle.rx_lang.specs.Meaning.{Cut, Spells, Marks}
 use Rattle.rx_lang.specs.Specification.{MatchesSymbol}
 use Rattle.rx_lang.specs.Tables.{Tables}
@@ -33,26 +34,30 @@ abbrev pub core_tree : Tables → Core → Expr
 core_tree tables (Symbol s) = symbol s
 core_tree tables (Sequence f g) = sequence (node_tree tables f) (node_tree tables g)
 core_tree tables (Union f g) = union (node_tree tables f) (node_tree tables g)
+core_tree tables (Repeat f m n) = repeated (node_tree tables f) m n
 
 -- What the expression names is in the tables.
 abbrev pub HasEntries : Tables → Core → Type 0
 HasEntries tables (Symbol s) = s < length tables.symbols
 HasEntries tables (Sequence f g) = (f < length tables.nodes) × (g < length tables.nodes)
 HasEntries tables (Union f g) = (f < length tables.nodes) × (g < length tables.nodes)
+HasEntries tables (Repeat f m n) = f < length tables.nodes
 
 -- a number above the children
 abbrev pub above : Core → ℕ
 above (Symbol s) = 0
 above (Sequence f g) = max f g + 1
 above (Union f g) = max f g + 1
+above (Repeat f m n) = f + 1
 
--- the node is this expression, under this sign, or under this mark
+-- The node is this expression, under this sign, or under this mark. A repeat of at most once is a sign.
 abbrev pub IsLayer : ExprNode → Layer → Type 0
-IsLayer node (Plain (Symbol s)) = node ≡ Leaf s
-IsLayer node (Plain (Sequence f g)) = node ≡ Seq f g
-IsLayer node (Plain (Union f g)) = node ≡ Alt f g
-IsLayer node (Sign f true true) = node ≡ Star f
-IsLayer node (Sign f true false) = node ≡ Plus f
-IsLayer node (Sign f false true) = node ≡ Opt f
-IsLayer node (Sign f false false) = ⊥
-IsLayer node (Marked f y) = node ≡ Mark f y
+IsLayer top (Plain (Symbol s)) = top ≡ Leaf s
+IsLayer top (Plain (Sequence f g)) = top ≡ Seq f g
+IsLayer top (Plain (Union f g)) = top ≡ Alt f g
+IsLayer top (Plain (Repeat f m n)) = top ≡ node.Repeat f m n
+IsLayer top (Sign f true true) = top ≡ Star f
+IsLayer top (Sign f true false) = top ≡ Plus f
+IsLayer top (Sign f false true) = (top ≡ Opt f) ⊎ (top ≡ node.Repeat f 0 1)
+IsLayer top (Sign f false false) = (m : ℕ) × (m ≢ 0) × (top ≡ node.Repeat f m 1)
+IsLayer top (Marked f y) = top ≡ Mark f y

@@ -3,7 +3,7 @@
 
 ghost use Rattle.std.specs.Prelude.{◌≡◌, ◌∷◌, [], codes};
 ghost use Rattle.rx_lang.specs.Specification.{Language};
-ghost use Rattle.rx_lang.specs.Examples.{Answers, digits, last_symbol_marked, last_symbol_tables, loop_in_loop, mark_in_each_part, marked_option_in_loop, marked_symbol, overlapping_symbols, shared_node_tables, unmarked_symbol};
+ghost use Rattle.rx_lang.specs.Examples.{Answers, counted_symbol, digits, last_symbol_marked, last_symbol_tables, loop_in_loop, mark_in_each_part, mark_in_repeat, marked_option_in_loop, marked_symbol, overlapping_symbols, scanned_option, scanned_pair, shared_node_tables, unmarked_symbol};
 ghost use Rattle.rx_lang.specs.Tables.{IsSpecification, specification};
 ghost use Rattle.rx_lang.specs.Vector.{bits_of};
 
@@ -42,6 +42,27 @@ pub fn matches_several_symbols()
 /// `a` without a mark on 1, 1.
 pub fn marks_nothing_without_a_mark()
     ensures { Answers (Language unmarked_symbol 0) (digits (codes "1") ∷ digits (codes "1") ∷ []) (digits (codes "000")) }
+{}
+
+/// `a{2,3} !z` on 1, 1, 1, 1.
+pub fn counts_a_symbol()
+    ensures { Answers (Language counted_symbol 0) (digits (codes "1") ∷ digits (codes "1") ∷ digits (codes "1") ∷ digits (codes "1") ∷ []) (digits (codes "00110")) }
+{}
+
+/// `(a !z){0,2} a{2,2}` on 1, 1, 1.
+pub fn marks_each_copy()
+    ensures { Answers (Language mark_in_repeat 0) (digits (codes "1") ∷ digits (codes "1") ∷ digits (codes "1") ∷ []) (digits (codes "0110")) }
+{}
+
+/// `scan a b !z` on 1, 0, 1, 0.
+pub fn scans_from_each_place()
+    ensures { Answers (Language scanned_pair 0) (digits (codes "1") ∷ digits (codes "0") ∷ digits (codes "1") ∷ digits (codes "0") ∷ []) (digits (codes "00101")) }
+{}
+
+/// `expr b !y; scan a? !z` on 0, 0: a scan of the empty word marks every word.
+pub fn scans_the_empty_word_everywhere()
+    ensures first { Answers (Language scanned_option 0) (digits (codes "0") ∷ digits (codes "0") ∷ []) (digits (codes "010")) }
+    ensures second { Answers (Language scanned_option 1) (digits (codes "0") ∷ digits (codes "0") ∷ []) (digits (codes "111")) }
 {}
 
 /// The tables of `expr (a|b)* a !z;` stand for its tree. Tables in which a node is the child of two stand for none.

@@ -17,4 +17,6 @@ pub enum ExprNode {
     Opt(u32),
     /// The expression, at whose end the output with this number is marked.
     Mark(u32, u8),
+    /// The expression at least and at most so many times.
+    Repeat(u32, u8, u8),
 }

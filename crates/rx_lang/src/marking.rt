@@ -1,8 +1,9 @@
 // Which words a specification marks for an output, by trying every cut.
 
-ghost use Rattle.std.specs.Prelude.{◌↔◌, ◌<◌, ◌^◌, false, IsTrue, length};
-ghost use Rattle.rx_lang.specs.Expression.{plus, sequence};
-ghost use Rattle.rx_lang.specs.Specification.{Language};
+ghost use Rattle.std.specs.Prelude.{◌↔◌, ℕ, ◌<◌, ◌^◌, All, IsTrue, length, map};
+ghost use Rattle.rx_lang.specs.Expression.{plus, repeated};
+ghost use Rattle.rx_lang.specs.Meaning.{SomeMarks, EndsIn};
+ghost use Rattle.rx_lang.specs.Specification.{Language, MatchesSymbol};
 ghost use Rattle.rx_lang.specs.Tables.{specification};
 ghost use Rattle.rx_lang.specs.VectorWords.{MarksWord, node_tree, word_bits};
 ghost use Rattle.rx_lang.specs.Wrapped.{HasEntries, MarksBehind, core_tree};
@@ -18,8 +19,31 @@ pub fn shows(spec: &Spec, output: u8, word: &[Vector]) -> bool
     requires few_vectors { length word.now < 2 ^ 32 }
     ensures { IsTrue result ↔ Language (specification spec.now) output (word_bits spec.now word.now) }
 {
-    for expr in spec.exprs() {
-        if marks(spec, *expr, output, word) {
+    some_marks(spec, spec.exprs(), output, word) || scans_mark(spec, output, word)
+}
+
+// Whether some expression with one of these roots marks the word.
+fn some_marks(spec: &Spec, roots: &[u32], output: u8, word: &[Vector]) -> bool
+    requires in_table { All (λ root. root < length spec.now.nodes) roots.now }
+    requires few_vectors { length word.now < 2 ^ 32 }
+    ensures { IsTrue result ↔ SomeMarks (MatchesSymbol spec.now.symbols) (map (node_tree spec.now) roots.now) output (word_bits spec.now word.now) }
+{
+    for root in roots {
+        if marks(spec, *root, output, word) {
+            return true;
+        }
+    }
+    false
+}
+
+// Whether some rest of the word is marked by a `scan` statement.
+fn scans_mark(spec: &Spec, output: u8, word: &[Vector]) -> bool
+    requires few_vectors { length word.now < 2 ^ 32 }
+    ensures { IsTrue result ↔ EndsIn (SomeMarks (MatchesSymbol spec.now.symbols) (map (node_tree spec.now) spec.now.scans) output) (word_bits spec.now word.now) }
+{
+    for cut in 0..=word.len() {
+        let (_, rest) = word.split_at(cut);
+        if some_marks(spec, spec.scans(), output, rest) {
             return true;
         }
     }
@@ -55,7 +79,35 @@ fn marks_once(spec: &Spec, core: Core, output: u8, word: &[Vector]) -> bool
         }
         Core::Union(one, other) => marks(spec, one, output, word)
             || marks(spec, other, output, word),
+        Core::Repeat(inner, _, most) => marks_repeat(spec, inner, most, output, word),
     }
+}
+
+// Whether the expression marks the word behind fewer than so many of its own words.
+#[cycle(marking)]
+fn marks_repeat(spec: &Spec, inner: u32, most: u8, output: u8, word: &[Vector]) -> bool
+    requires in_table { inner < length spec.now.nodes }
+    requires few_vectors { length word.now < 2 ^ 32 }
+    ensures { (least : ℕ) → IsTrue result ↔ MarksWord spec.now (repeated (node_tree spec.now inner) least most) output word.now }
+{
+    most > 0
+        && (marks(spec, inner, output, word) || marks_next(spec, inner, most - 1, output, word))
+}
+
+// Whether the expression marks the word behind one of its own words and fewer than so many further ones.
+#[cycle(marking)]
+fn marks_next(spec: &Spec, inner: u32, most: u8, output: u8, word: &[Vector]) -> bool
+    requires in_table { inner < length spec.now.nodes }
+    requires few_vectors { length word.now < 2 ^ 32 }
+    ensures { (least : ℕ) → IsTrue result ↔ MarksBehind spec.now (node_tree spec.now inner) (repeated (node_tree spec.now inner) least most) output word.now }
+{
+    for cut in 0..=word.len() {
+        let (front, rest) = word.split_at(cut);
+        if accepts(spec, inner, front) && marks_repeat(spec, inner, most, output, rest) {
+            return true;
+        }
+    }
+    false
 }
 
 // Whether the second expression marks the word behind a word of the first.

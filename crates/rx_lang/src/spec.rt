@@ -9,7 +9,7 @@ use rx_text::Name;
 use std::marker::Model;
 
 /// A specification: its lines, symbols and outputs in order of declaration, the nodes of all expressions in one table,
-/// and the root node of each statement. A child stands before its parent in the table of nodes.
+/// and the root node of each `expr` and of each `scan` statement. A child stands before its parent in the table of nodes.
 #[derive(Drop)]
 pub struct Spec {
     lines: Vec<Name>,
@@ -17,6 +17,7 @@ pub struct Spec {
     outputs: Vec<Name>,
     nodes: Vec<ExprNode>,
     exprs: Vec<u32>,
+    scans: Vec<u32>,
 }
 
 impl Model for Spec {
@@ -30,6 +31,7 @@ impl Model for Spec {
       outputs = s.outputs.items;
       nodes = s.nodes.items;
       exprs = s.exprs.items;
+      scans = s.scans.items;
     } };
 
     ghost invariant = { λ s. IsSpecification (record {
@@ -38,6 +40,7 @@ impl Model for Spec {
       outputs = s.outputs.items;
       nodes = s.nodes.items;
       exprs = s.exprs.items;
+      scans = s.scans.items;
     }) };
 }
 
@@ -49,6 +52,7 @@ impl Spec {
         outputs: Vec<Name>,
         nodes: Vec<ExprNode>,
         exprs: Vec<u32>,
+        scans: Vec<u32>,
     ) -> Spec
         requires { IsSpecification (record {
           lines = lines.items;
@@ -56,6 +60,7 @@ impl Spec {
           outputs = outputs.items;
           nodes = nodes.items;
           exprs = exprs.items;
+          scans = scans.items;
         }) }
         ensures { result ≡ record {
           lines = lines.items;
@@ -63,6 +68,7 @@ impl Spec {
           outputs = outputs.items;
           nodes = nodes.items;
           exprs = exprs.items;
+          scans = scans.items;
         } }
     {
         Self {
@@ -71,6 +77,7 @@ impl Spec {
             outputs,
             nodes,
             exprs,
+            scans,
         }
     }
 
@@ -106,11 +113,18 @@ impl Spec {
         &self.nodes
     }
 
-    /// The root node of each statement, at least one.
+    /// The root node of each `expr` statement. There is one, or a `scan` statement.
     pub fn exprs(&self) -> &[u32]
         ensures roots { result.now ≡ self.now.exprs }
         ensures specification { IsSpecification self.now }
     {
         &self.exprs
+    }
+    /// The root node of each `scan` statement.
+    pub fn scans(&self) -> &[u32]
+        ensures roots { result.now ≡ self.now.scans }
+        ensures specification { IsSpecification self.now }
+    {
+        &self.scans
     }
 }

@@ -2,7 +2,7 @@
 
 ghost use Rattle.std.specs.Prelude.{◌↔◌, ◌<◌, ◌^◌, IsTrue, length};
 ghost use Rattle.rx_lang.specs.Around.{ManyAround};
-ghost use Rattle.rx_lang.specs.Expression.{sequence, star};
+ghost use Rattle.rx_lang.specs.Expression.{repeated, sequence, star};
 ghost use Rattle.rx_lang.specs.declared.wrapped.Core.TheVariants.{Symbol};
 ghost use Rattle.rx_lang.specs.VectorWords.{SpellsWord, node_tree};
 ghost use Rattle.rx_lang.specs.Wrapped.{HasEntries, core_tree, wrap};
@@ -13,7 +13,7 @@ use crate::vector::Vector;
 use crate::wrapped::{Core, Wrapped, unwrapped};
 
 /// Whether the expression with this root node spells the word. It takes no memory and tries every cut, so it is slow. Calls
-/// nest a few deep for each leaf and for each halving of the word, however long the chains of signs are.
+/// nest a few deep for each leaf, copies counted, and for each halving of the word, however long the chains of signs are.
 #[cycle(spelling)]
 pub fn accepts(spec: &Spec, expr: u32, word: &[Vector]) -> bool
     requires in_table { expr < length spec.now.nodes }
@@ -48,6 +48,7 @@ fn spells_once(spec: &Spec, core: Core, word: &[Vector]) -> bool
         Core::Symbol(symbol) => spells_symbol(spec, symbol, word),
         Core::Sequence(first, second) => spells_sequence(spec, first, second, word),
         Core::Union(one, other) => accepts(spec, one, word) || accepts(spec, other, word),
+        Core::Repeat(inner, least, most) => spells_repeat(spec, inner, least, most, word),
     }
 }
 
@@ -72,6 +73,38 @@ fn spells_sequence(spec: &Spec, first: u32, second: u32, word: &[Vector]) -> boo
     for cut in 0..=word.len() {
         let (front, rest) = word.split_at(cut);
         if accepts(spec, second, rest) && accepts(spec, first, front) {
+            return true;
+        }
+    }
+    false
+}
+
+// Whether the word is so many words of the expression, at least and at most.
+#[cycle(spelling)]
+fn spells_repeat(spec: &Spec, inner: u32, least: u8, most: u8, word: &[Vector]) -> bool
+    requires in_table { inner < length spec.now.nodes }
+    requires few_vectors { length word.now < 2 ^ 32 }
+    ensures { IsTrue result ↔ SpellsWord spec.now (repeated (node_tree spec.now inner) least most) word.now }
+{
+    if least == 0 && word.is_empty() {
+        true
+    } else if most == 0 {
+        false
+    } else {
+        spells_next(spec, inner, least.saturating_sub(1), most - 1, word)
+    }
+}
+
+// Whether the word is a word of the expression and behind it so many further ones.
+#[cycle(spelling)]
+fn spells_next(spec: &Spec, inner: u32, least: u8, most: u8, word: &[Vector]) -> bool
+    requires in_table { inner < length spec.now.nodes }
+    requires few_vectors { length word.now < 2 ^ 32 }
+    ensures { IsTrue result ↔ SpellsWord spec.now (sequence (node_tree spec.now inner) (repeated (node_tree spec.now inner) least most)) word.now }
+{
+    for cut in 0..=word.len() {
+        let (front, rest) = word.split_at(cut);
+        if accepts(spec, inner, front) && spells_repeat(spec, inner, least, most, rest) {
             return true;
         }
     }

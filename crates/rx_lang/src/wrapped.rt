@@ -13,6 +13,7 @@ pub(crate) enum Core {
     Symbol(u8),
     Sequence(u32, u32),
     Union(u32, u32),
+    Repeat(u32, u8, u8),
 }
 
 /// A node: an expression without a sign, a sign that lets the inner expression loop or be left out, or a mark.
@@ -49,6 +50,11 @@ fn outermost(node: ExprNode) -> Layer
         ExprNode::Star(inner) => (inner, true, true),
         ExprNode::Plus(inner) => (inner, true, false),
         ExprNode::Opt(inner) => (inner, false, true),
+        // At most once is a sign, so that a chain of such repeats costs no calls.
+        ExprNode::Repeat(inner, least, 1) => (inner, false, least == 0),
+        ExprNode::Repeat(inner, least, most) => {
+            return Layer::Plain(Core::Repeat(inner, least, most));
+        }
     };
     Layer::Sign {
         inner,
