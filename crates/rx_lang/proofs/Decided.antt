@@ -1,11 +1,12 @@
 -- A test for each question about words: whether an expression spells one, marks one, and whether a vector matches a pattern.
-use Rattle.std.proofs.Common.{◌≡◌, ◌⊎◌, ℕ, zero, suc, ◌≤◌, Bool, true, false, not, ◌&&◌, ◌||◌, ◌==◌, List, [], ◌∷◌, ◌++◌, length, Option, Some, None, slice_get, Decides, refl, sym, subst, inl, inr, arith}
+use Rattle.std.proofs.Common.{◌≡◌, ◌⊎◌, ℕ, zero, suc, pred, ◌≤◌, Bool, true, false, not, ◌&&◌, ◌||◌, ◌==◌, List, [], ◌∷◌, ◌++◌, length, Option, Some, None, slice_get, Decides, refl, sym, subst, inl, inr, arith}
+use Rattle.std.specs.Bool.{⊤}
 use Rattle.std.proofs.lemmas.Bool.Decides.{Decides-and, Decides-or, Decides-like, Decides-eqb}
 use Rattle.rx_lang.specs.declared.pattern.PatternBit.{PatternBit}
 use Rattle.rx_lang.specs.declared.pattern.PatternBit.TheVariants.{Zero, One, Any}
 use Rattle.rx_lang.specs.Vector.{Bits, Agrees, Matches}
-use Rattle.rx_lang.specs.Expression.{Expr, symbol, sequence, union, star, plus, optional, marked}
-use Rattle.rx_lang.specs.Meaning.{Cut, Many, none, more, Spells, Marks, SomeMarks}
+use Rattle.rx_lang.specs.Expression.{Expr, symbol, sequence, union, star, plus, optional, marked, repeated}
+use Rattle.rx_lang.specs.Meaning.{Cut, Many, none, more, Repeats, RepeatMarks, EndsIn, Spells, Marks, SomeMarks}
 use Rattle.rx_lang.specs.Specification.{NamedPattern, Specification, MatchesSymbol, Language}
 
 -- some cut of the word has a front that passes p and a rest that passes q
@@ -31,6 +32,19 @@ abbrev pub is_nil : {X : Type 0} → List X → Bool
 is_nil [] = true
 is_nil (x ∷ u) = false
 
+-- at least m and at most n words that pass p make the word
+abbrev pub repeats : {X : Type 0} → (List X → Bool) → ℕ → ℕ → List X → Bool
+repeats p m zero u = m == 0 && is_nil u
+repeats p m (suc n) u = (m == 0 && is_nil u) || cut p (repeats p (pred m) n) u
+
+-- a word that passes q stands behind fewer than n words that pass p
+abbrev pub repeat_marks : {X : Type 0} → (List X → Bool) → (List X → Bool) → ℕ → List X → Bool
+repeat_marks p q zero u = false
+repeat_marks p q (suc n) u = q u || cut p (repeat_marks p q n) u
+
+abbrev pub ends_in : {X : Type 0} → (List X → Bool) → List X → Bool
+ends_in p u = cut (λ v. true) p u
+
 module _ {X : Type 0} (is : ℕ → X → Bool) where
   abbrev pub spells : Expr → List X → Bool
   spells (symbol s) u = is_letter (is s) u
@@ -40,6 +54,7 @@ module _ {X : Type 0} (is : ℕ → X → Bool) where
   spells (plus f) u = cut (spells f) (many (spells f)) u
   spells (optional f) u = is_nil u || spells f u
   spells (marked f y) u = spells f u
+  spells (repeated f m n) u = repeats (spells f) m n u
 
   abbrev pub marks : Expr → ℕ → List X → Bool
   marks (symbol s) y u = false
@@ -49,6 +64,7 @@ module _ {X : Type 0} (is : ℕ → X → Bool) where
   marks (plus f) y u = cut (many (spells f)) (marks f y) u
   marks (optional f) y u = marks f y u
   marks (marked f z) y u = (z == y && spells f u) || marks f y u
+  marks (repeated f m n) y u = repeat_marks (spells f) (marks f y) n u
 
   abbrev pub some_marks : List Expr → ℕ → List X → Bool
   some_marks [] y u = false
@@ -129,6 +145,24 @@ module _ {X : Type 0} where
   nil_decided [] = (λ _. refl, λ _. refl)
   nil_decided (x ∷ u) = (λ e. cc, λ e. cc)
 
+  repeats_decided : (P : List X → Type 0) (p : List X → Bool) → ((v : List X) → Decides (p v) (P v)) → (m n : ℕ) (u : List X)
+      → Decides (repeats p m n u) (Repeats P m n u)
+  repeats_decided P p each m zero u = Decides-and (m == 0) (is_nil u) (Decides-eqb m 0) (nil_decided u)
+  repeats_decided P p each m (suc n) u =
+      Decides-or (m == 0 && is_nil u) (cut p (repeats p (pred m) n) u) (Decides-and (m == 0) (is_nil u) (Decides-eqb m 0) (nil_decided u))
+      (cut_decided P (Repeats P (pred m) n) p (repeats p (pred m) n) each u (λ w h. repeats_decided P p each (pred m) n w))
+
+  repeat_marks_decided : (P Q : List X → Type 0) (p q : List X → Bool) → ((v : List X) → Decides (p v) (P v))
+      → ((v : List X) → Decides (q v) (Q v)) → (n : ℕ) (u : List X) → Decides (repeat_marks p q n u) (RepeatMarks P Q n u)
+  repeat_marks_decided P Q p q each last zero u = (λ e. cc, λ h. absurd h)
+  repeat_marks_decided P Q p q each last (suc n) u =
+      Decides-or (q u) (cut p (repeat_marks p q n) u) (last u)
+      (cut_decided P (RepeatMarks P Q n) p (repeat_marks p q n) each u (λ w h. repeat_marks_decided P Q p q each last n w))
+
+  ends_in_decided : (P : List X → Type 0) (p : List X → Bool) → ((v : List X) → Decides (p v) (P v)) → (u : List X)
+      → Decides (ends_in p u) (EndsIn P u)
+  ends_in_decided P p each u = cut_decided (λ v. ⊤) P (λ v. true) p (λ v. (λ _. tt, λ _. refl)) u (λ w h. each w)
+
 module _ {X : Type 0} (Is : ℕ → X → Type 0) (is : ℕ → X → Bool) (each : (s : ℕ) (x : X) → Decides (is s x) (Is s x)) where
   pub spells_decided : (e : Expr) (u : List X) → Decides (spells is e u) (Spells Is e u)
   spells_decided (symbol s) u = letter_decided (Is s) (is s) (each s) u
@@ -141,6 +175,7 @@ module _ {X : Type 0} (Is : ℕ → X → Type 0) (is : ℕ → X → Bool) (eac
       (λ w h. many_decided (Spells Is f) (spells is f) (spells_decided f) w)
   spells_decided (optional f) u = Decides-or (is_nil u) (spells is f u) (nil_decided u) (spells_decided f u)
   spells_decided (marked f y) u = spells_decided f u
+  spells_decided (repeated f m n) u = repeats_decided (Spells Is f) (spells is f) (spells_decided f) m n u
 
   -- marks behind any number of words of the expression
   loop_decided : (f : Expr) (y : ℕ) → ((u : List X) → Decides (marks is f y u) (Marks Is f y u)) → (u : List X)
@@ -161,6 +196,8 @@ module _ {X : Type 0} (Is : ℕ → X → Type 0) (is : ℕ → X → Bool) (eac
   marks_decided (marked f z) y u =
       Decides-or (z == y && spells is f u) (marks is f y u)
       (Decides-and (z == y) (spells is f u) (Decides-eqb z y) (spells_decided f u)) (marks_decided f y u)
+  marks_decided (repeated f m n) y u =
+      repeat_marks_decided (Spells Is f) (Marks Is f y) (spells is f) (marks is f y) (spells_decided f) (marks_decided f y) n u
 
   pub some_marks_decided : (es : List Expr) (y : ℕ) (u : List X) → Decides (some_marks is es y u) (SomeMarks Is es y u)
   some_marks_decided [] y u = (λ e. cc, λ h. absurd h)
@@ -214,8 +251,12 @@ matches_symbol_decided symbols s x = declared_decided (slice_get symbols s) x
 
 -- the word is in the language of the output
 abbrev pub language : Specification → ℕ → List Bits → Bool
-language spec y u = some_marks (matches_symbol spec.symbols) spec.statements y u
+language spec y u = some_marks (matches_symbol spec.symbols) spec.statements y u || ends_in (some_marks (matches_symbol spec.symbols) spec.scans y) u
 
 pub language_decided : (spec : Specification) (y : ℕ) (u : List Bits) → Decides (language spec y u) (Language spec y u)
 language_decided spec y u =
-    some_marks_decided (MatchesSymbol spec.symbols) (matches_symbol spec.symbols) (matches_symbol_decided spec.symbols) spec.statements y u
+    let each : (es : List Expr) (v : List Bits) → Decides (some_marks (matches_symbol spec.symbols) es y v) (SomeMarks (MatchesSymbol spec.symbols) es y v)
+    = λ es v. some_marks_decided (MatchesSymbol spec.symbols) (matches_symbol spec.symbols) (matches_symbol_decided spec.symbols) es y v in
+    Decides-or (some_marks (matches_symbol spec.symbols) spec.statements y u) (ends_in (some_marks (matches_symbol spec.symbols) spec.scans y) u)
+    (each spec.statements u)
+    (ends_in_decided (SomeMarks (MatchesSymbol spec.symbols) spec.scans y) (some_marks (matches_symbol spec.symbols) spec.scans y) (each spec.scans) u)

@@ -9,3 +9,6 @@ pub mod Agreeing
 pub mod Middle
 pub mod Statements
 pub mod WordCuts
+pub mod Alike
+pub mod Copying
+pub mod Bounds

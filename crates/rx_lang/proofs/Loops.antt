@@ -68,7 +68,7 @@ module _ {X : Type 0} where
   plus_last : (P : List X → Type 0) (u : List X) → Cut P (Many P) u → Cut (Many P) P u
   plus_last P u h = subst (Cut (Many P) P) (sym h.whole) (first_last P h.front h.rest h.first h.second)
 
-  cut_map : (P Q S T : List X → Type 0) → ((v : List X) → P v → S v) → ((v : List X) → Q v → T v) → (u : List X) → Cut P Q u → Cut S T u
+  pub cut_map : (P Q S T : List X → Type 0) → ((v : List X) → P v → S v) → ((v : List X) → Q v → T v) → (u : List X) → Cut P Q u → Cut S T u
   cut_map P Q S T f g u h = record { front = h.front; rest = h.rest; whole = h.whole; first = f h.front h.first; second = g h.rest h.second }
 
   cut_behind : (P Q : List X → Type 0) (u : List X) → Cut (Many P) (Cut (Many P) Q) u → Cut (Many P) Q u

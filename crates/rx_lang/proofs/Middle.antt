@@ -1,11 +1,11 @@
 -- A word of many words is told by the one that covers a letter in its middle.
-use Rattle.std.proofs.Common.{◌≡◌, ◌≢◌, ◌↔◌, ◌∙◌, ℕ, ◌+◌, ◌-◌, ◌<◌, ◌≤◌, Bool, true, false, List, [], ◌∷◌, ◌++◌, length, take, drop, refl, sym, ap, subst, inl, inr, arith, length-append, append_assoc, append-nil}
+use Rattle.std.proofs.Common.{◌≡◌, ◌≢◌, ◌↔◌, ◌∙◌, ℕ, zero, suc, ◌+◌, ◌-◌, ◌<◌, ◌≤◌, Bool, true, false, List, [], ◌∷◌, ◌++◌, length, take, drop, refl, sym, ap, subst, inl, inr, arith, length-append, append_assoc, append-nil}
 use Rattle.std.proofs.lemmas.Bool.{cases_lt}
 use Rattle.std.proofs.lemmas.List.{take-map, drop-map, length-map, nil_from_length}
 use Rattle.std.proofs.Math.Seq.{take-append_seam, drop-append_seam}
 use Rattle.rx_lang.specs.declared.vector.Vector.{Vector}
 use Rattle.rx_lang.specs.Vector.{Bits, bits_of}
-use Rattle.rx_lang.specs.Expression.{Expr, star}
+use Rattle.rx_lang.specs.Expression.{Expr, repeated, sequence, star}
 use Rattle.rx_lang.specs.Meaning.{Cut, Many, none, more, Spells}
 use Rattle.rx_lang.specs.Specification.{MatchesSymbol}
 use Rattle.rx_lang.specs.Tables.{Tables}
@@ -142,3 +142,25 @@ module _ (tables : Tables) (e : Expr) where
       | inr k ↦ wrap_less (MatchesSymbol tables.symbols) true m e (word_bits tables word) k
     ],
   )
+
+  word_nothing : (word : List Vector) → word_bits tables word ≡ [] → length word ≡ 0
+  word_nothing word h = sym (length-map word (bits_of (length tables.lines))) ∙ ap length h
+
+  -- a counted repeat is left out, has come to its end, or goes on with a word
+  pub repeat_left_out : (m n : ℕ) (word : List Vector) → (m ≡ 0) × (length word ≡ 0) → SpellsWord tables (repeated e m n) word
+  repeat_left_out m zero word h = (h.0, nothing word h.1)
+  repeat_left_out m (suc n) word h = inl (h.0, nothing word h.1)
+
+  pub repeat_at_end : (m n : ℕ) (word : List Vector) → ((m ≡ 0) × (length word ≡ 0) → ⊥) → n ≡ 0 → SpellsWord tables (repeated e m n) word → ⊥
+  repeat_at_end m zero word due at h = due (h.0, word_nothing word h.1)
+  repeat_at_end m (suc n) word due at h = absurd (omega arith)
+
+  pub repeat_goes_on : (m n k : ℕ) (word : List Vector) → ((m ≡ 0) × (length word ≡ 0) → ⊥) → n ≡ suc k
+      → SpellsWord tables (sequence e (repeated e (m - 1) k)) word ↔ SpellsWord tables (repeated e m n) word
+  repeat_goes_on zero n k word due at = rw at (
+    λ h. inr h,
+    λ h. elim h [ inl p ↦ absurd (due (refl, word_nothing word p.1)) | inr p ↦ p ],
+  )
+  repeat_goes_on (suc m) n k word due at =
+      let same : suc m - 1 ≡ m = omega arith in
+      rw (at, same) (λ h. inr h, λ h. elim h [ inl p ↦ absurd (omega (arith, p.0)) | inr p ↦ p ])

@@ -3,8 +3,8 @@ use Rattle.std.proofs.Common.{◌≡◌, ◌∙◌, ℕ, zero, suc, ◌+◌, ◌
 use Rattle.std.proofs.lemmas.List.{get_or_append_left}
 use Rattle.std.proofs.Math.Seq.{get_or-append_seam}
 use Rattle.rx_lang.specs.declared.expr_node.ExprNode.{ExprNode}
-use Rattle.rx_lang.specs.declared.expr_node.ExprNode.TheVariants.{Leaf, Seq, Alt, Star, Plus, Opt, Mark}
-use Rattle.rx_lang.specs.Expression.{Expr, symbol, star, plus, optional, marked}
+use Rattle.rx_lang.specs.declared.expr_node.ExprNode.TheVariants.{Leaf, Seq, Alt, Star, Plus, Opt, Mark, Repeat}
+use Rattle.rx_lang.specs.Expression.{Expr, symbol, star, plus, optional, marked, repeated}
 use Rattle.rx_lang.specs.Tables.{children, tree_at, tree_of, trees}
 
 abbrev grown : List Expr → List ExprNode → List Expr
@@ -27,6 +27,7 @@ same_children some other n (Star f) h e = ap star (e f (h 0 0 (omega arith)))
 same_children some other n (Plus f) h e = ap plus (e f (h 0 0 (omega arith)))
 same_children some other n (Opt f) h e = ap optional (e f (h 0 0 (omega arith)))
 same_children some other n (Mark f y) h e = ap (λ t. marked t y) (e f (h 0 0 (omega arith)))
+same_children some other n (Repeat f m k) h e = ap (λ t. repeated t m k) (e f (h 0 0 (omega arith)))
 
 here : (nodes : List ExprNode) (before : List Expr) (node : ExprNode) → All (λ child. child < length before) (children node)
     → tree_at (grown before (node ∷ nodes)) (length before) ≡ tree_of (grown before (node ∷ nodes)) node

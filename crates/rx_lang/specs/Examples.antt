@@ -90,12 +90,12 @@ mark_in_repeat = one_symbol (sequence (repeated (marked (symbol 0) 0) 0 2) (repe
 
 -- scan a b !z;
 abbrev pub scanned_pair : Specification
-scanned_pair = record one_and_zero (codes "z" ∷ []) [] { scans = sequence (symbol 0) (marked (symbol 1) 0) ∷ [] }
+scanned_pair = record (one_and_zero (codes "z" ∷ []) []) { scans = sequence (symbol 0) (marked (symbol 1) 0) ∷ [] }
 
 -- expr b !y; scan a? !z;
 abbrev pub scanned_option : Specification
 scanned_option =
-    record one_and_zero (codes "y" ∷ codes "z" ∷ []) (marked (symbol 1) 0 ∷ []) { scans = marked (optional (symbol 0)) 1 ∷ [] }
+    record (one_and_zero (codes "y" ∷ codes "z" ∷ []) (marked (symbol 1) 0 ∷ [])) { scans = marked (optional (symbol 0)) 1 ∷ [] }
 
 -- the tables of the specification whose last symbol is marked
 abbrev pub last_symbol_tables : Tables

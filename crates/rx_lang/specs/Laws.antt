@@ -1,8 +1,9 @@
 -- Laws of the meaning of expressions, as statements.
-use Rattle.std.specs.Prelude.{◌≡◌, ◌≢◌, ◌⊎◌, ◌↔◌, ℕ, ◌+◌, List, [], ◌++◌, length, All}
+use Rattle.std.specs.Prelude.{◌≡◌, ◌⊎◌, ◌↔◌, ℕ, List, [], ◌++◌}
 use Rattle.rx_lang.specs.declared.pattern.PatternBit.{PatternBit}
 use Rattle.rx_lang.specs.Vector.{Bits, Matches}
 use Rattle.rx_lang.specs.Expression.{Expr, sequence, star, plus, marked}
+use Rattle.rx_lang.specs.Copies.{copied}
 use Rattle.rx_lang.specs.Meaning.{Cut, Many, Spells, Marks}
 use Rattle.rx_lang.specs.Specification.{Specification, Language}
 
@@ -35,3 +36,8 @@ module _ {X : Type 0} (Is : ℕ → X → Type 0) where
   -- A marked loop marks the empty word exactly where its expression spells it or marks it within.
   abbrev pub StarMarksEmpty : Type 0
   StarMarksEmpty = (f : Expr) (y z : ℕ) → Marks Is (star (marked f y)) z [] ↔ (((y ≡ z) × Spells Is f []) ⊎ Marks Is f z [])
+
+  -- Copies in place of counted repeats spell and mark the same words.
+  pub record CopiesMean (e : Expr) : Type 0 where
+    pub spells : (u : List X) → Spells Is (copied e) u ↔ Spells Is e u
+    pub marks : (y : ℕ) (u : List X) → Marks Is (copied e) y u ↔ Marks Is e y u

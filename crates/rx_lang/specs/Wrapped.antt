@@ -9,7 +9,7 @@ use Rattle.rx_lang.specs.declared.expr_node.ExprNode.{ExprNode}
 use Rattle.rx_lang.specs.declared.expr_node.ExprNode.TheVariants.{Leaf, Seq, Alt, Star, Plus, Opt, Mark}
 use Rattle.rx_lang.specs.declared.expr_node.ExprNode.TheVariants as node
 use Rattle.rx_lang.specs.Expression.{Expr, symbol, sequence, union, star, plus, optional, repeated}
-use Rattle.rx_lang.specs.Meaning.{Cut, Spells, Marks}
+use Rattle.rx_lang.specs.Meaning.{Cut, RepeatMarks, Spells, Marks}
 use Rattle.rx_lang.specs.Specification.{MatchesSymbol}
 use Rattle.rx_lang.specs.Tables.{Tables}
 use Rattle.rx_lang.specs.VectorWords.{MarksWord, SpellsWord, node_tree, word_bits}
@@ -24,6 +24,17 @@ wrap true true e = star e
 -- The second expression marks the word behind a word of the first.
 abbrev pub MarksBehind : Tables → Expr → Expr → ℕ → List Vector → Type 0
 MarksBehind tables f g y word = Cut (Spells (MatchesSymbol tables.symbols) f) (Marks (MatchesSymbol tables.symbols) g y) (word_bits tables word)
+
+-- The expression marks the word behind fewer than n of its own words.
+abbrev pub MarksRepeated : Tables → Expr → ℕ → ℕ → List Vector → Type 0
+MarksRepeated tables f n y word =
+    RepeatMarks (Spells (MatchesSymbol tables.symbols) f) (Marks (MatchesSymbol tables.symbols) f y) n (word_bits tables word)
+
+-- The expression marks the word behind one of its own words and fewer than n further ones.
+abbrev pub MarksLater : Tables → Expr → ℕ → ℕ → List Vector → Type 0
+MarksLater tables f n y word =
+    Cut (Spells (MatchesSymbol tables.symbols) f)
+    (RepeatMarks (Spells (MatchesSymbol tables.symbols) f) (Marks (MatchesSymbol tables.symbols) f y) n) (word_bits tables word)
 
 -- Where marked, the words of the expression with its sign; and what the expression marks, where it loops also behind its words.
 abbrev pub MarksBelow : Tables → Bool → Bool → Bool → Expr → ℕ → List Vector → Type 0

@@ -1,12 +1,12 @@
 // Which words a specification marks for an output, by trying every cut.
 
-ghost use Rattle.std.specs.Prelude.{◌↔◌, ℕ, ◌<◌, ◌^◌, All, IsTrue, length, map};
-ghost use Rattle.rx_lang.specs.Expression.{plus, repeated};
+ghost use Rattle.std.specs.Prelude.{◌↔◌, ◌<◌, ◌^◌, All, IsTrue, length, map};
+ghost use Rattle.rx_lang.specs.Expression.{plus};
 ghost use Rattle.rx_lang.specs.Meaning.{SomeMarks, EndsIn};
 ghost use Rattle.rx_lang.specs.Specification.{Language, MatchesSymbol};
 ghost use Rattle.rx_lang.specs.Tables.{specification};
 ghost use Rattle.rx_lang.specs.VectorWords.{MarksWord, node_tree, word_bits};
-ghost use Rattle.rx_lang.specs.Wrapped.{HasEntries, MarksBehind, core_tree};
+ghost use Rattle.rx_lang.specs.Wrapped.{HasEntries, MarksBehind, MarksLater, MarksRepeated, core_tree};
 
 use crate::spec::Spec;
 use crate::spelling::{accepts, spells_many, spells_wrapped};
@@ -88,7 +88,7 @@ fn marks_once(spec: &Spec, core: Core, output: u8, word: &[Vector]) -> bool
 fn marks_repeat(spec: &Spec, inner: u32, most: u8, output: u8, word: &[Vector]) -> bool
     requires in_table { inner < length spec.now.nodes }
     requires few_vectors { length word.now < 2 ^ 32 }
-    ensures { (least : ℕ) → IsTrue result ↔ MarksWord spec.now (repeated (node_tree spec.now inner) least most) output word.now }
+    ensures { IsTrue result ↔ MarksRepeated spec.now (node_tree spec.now inner) most output word.now }
 {
     most > 0
         && (marks(spec, inner, output, word) || marks_next(spec, inner, most - 1, output, word))
@@ -99,7 +99,7 @@ fn marks_repeat(spec: &Spec, inner: u32, most: u8, output: u8, word: &[Vector]) 
 fn marks_next(spec: &Spec, inner: u32, most: u8, output: u8, word: &[Vector]) -> bool
     requires in_table { inner < length spec.now.nodes }
     requires few_vectors { length word.now < 2 ^ 32 }
-    ensures { (least : ℕ) → IsTrue result ↔ MarksBehind spec.now (node_tree spec.now inner) (repeated (node_tree spec.now inner) least most) output word.now }
+    ensures { IsTrue result ↔ MarksLater spec.now (node_tree spec.now inner) most output word.now }
 {
     for cut in 0..=word.len() {
         let (front, rest) = word.split_at(cut);

@@ -1,6 +1,6 @@
 // Which words an expression spells, by trying every cut.
 
-ghost use Rattle.std.specs.Prelude.{◌↔◌, ◌<◌, ◌^◌, IsTrue, length};
+ghost use Rattle.std.specs.Prelude.{◌≡◌, ◌↔◌, ◌<◌, ◌^◌, IsTrue, length};
 ghost use Rattle.rx_lang.specs.Around.{ManyAround};
 ghost use Rattle.rx_lang.specs.Expression.{repeated, sequence, star};
 ghost use Rattle.rx_lang.specs.declared.wrapped.Core.TheVariants.{Symbol};
@@ -86,13 +86,20 @@ fn spells_repeat(spec: &Spec, inner: u32, least: u8, most: u8, word: &[Vector]) 
     requires few_vectors { length word.now < 2 ^ 32 }
     ensures { IsTrue result ↔ SpellsWord spec.now (repeated (node_tree spec.now inner) least most) word.now }
 {
-    if least == 0 && word.is_empty() {
+    if is_left_out(least, word) {
         true
     } else if most == 0 {
         false
     } else {
         spells_next(spec, inner, least.saturating_sub(1), most - 1, word)
     }
+}
+
+// Whether no further word is due, and none is there.
+fn is_left_out(least: u8, word: &[Vector]) -> bool
+    ensures { IsTrue result ↔ ((least ≡ 0) × (length word.now ≡ 0)) }
+{
+    least == 0 && word.is_empty()
 }
 
 // Whether the word is a word of the expression and behind it so many further ones.

@@ -1,6 +1,6 @@
 use Rattle.std.proofs.Common.{ℕ, ◌+◌, ◌-◌, ◌*◌, ◌^◌, ◌<◌, ◌≤◌, length, max, take, drop}
 use Rattle.rx_lang.specs.Around.{ManyAround}
-use Rattle.rx_lang.specs.Expression.{star}
+use Rattle.rx_lang.specs.Expression.{repeated, star}
 use Rattle.rx_lang.specs.VectorWords.{SpellsWord, node_tree}
 use Rattle.rx_lang.specs.Wrapped.{above, core_tree}
 use Rattle.rx_lang.proofs.spelling.+spelling.Given as goal
@@ -38,3 +38,15 @@ invariant-spells_many-loop-start l =
 abbrev pub invariant-spells_sequence-loop-cut : goal.invariant-spells_sequence-loop-cut
 invariant-spells_sequence-loop-cut l =
     (n : ℕ) → n < l.cut → SpellsWord l.spec (node_tree l.spec l.first) (take n l.word) → SpellsWord l.spec (node_tree l.spec l.second) (drop n l.word) → ⊥
+
+abbrev pub decreases-spells_repeat : goal.decreases-spells_repeat
+decreases-spells_repeat l = (3 * l.inner + 2) * 2 ^ 34 + 2 + 2 * l.most
+
+abbrev pub decreases-spells_next : goal.decreases-spells_next
+decreases-spells_next l = (3 * l.inner + 2) * 2 ^ 34 + 3 + 2 * l.most
+
+-- no shorter front does
+abbrev pub invariant-spells_next-loop-cut : goal.invariant-spells_next-loop-cut
+invariant-spells_next-loop-cut l =
+    (n : ℕ) → n < l.cut → SpellsWord l.spec (node_tree l.spec l.inner) (take n l.word)
+    → SpellsWord l.spec (repeated (node_tree l.spec l.inner) l.least l.most) (drop n l.word) → ⊥

@@ -5,6 +5,7 @@ use Rattle.rx_lang.specs.Expression.{marked}
 use Rattle.rx_lang.specs.Specification.{MatchesSymbol}
 use Rattle.rx_lang.specs.VectorWords.{MarksWord, node_tree, word_bits}
 use Rattle.rx_lang.specs.Wrapped.{MarksBelow, core_tree, wrap}
+use Rattle.rx_lang.proofs.Alike.{below_alike}
 use Rattle.rx_lang.proofs.Loops.{below_other, below_own, below_sign}
 use Rattle.rx_lang.proofs.Layers.{layer_below, layer_made}
 use Rattle.rx_lang.proofs.wrapped.marked_below.Goals as goal
@@ -45,18 +46,18 @@ pub loop-core-preserved-in-Sign : goal.loop-core-preserved-in-Sign
 loop-core-preserved-in-Sign c =
     let lt : c.loop-core.node < length c.args.spec.now.nodes = omega (arith, c.loop-core.invariant.0) in
     let below : c.in-Sign.inner < c.loop-core.node = layer_below c.args.spec.now c.nodes.ensures.specification c.nodes.result.now c.nodes.ensures.nodes c.loop-core.node (Leaf 0)
-    (Sign c.in-Sign.inner c.in-Sign.may_loop c.in-Sign.may_be_empty) lt c.in-Sign.ensures in
-    let made : node_tree c.args.spec.now c.loop-core.node ≡ wrap c.in-Sign.may_loop c.in-Sign.may_be_empty (node_tree c.args.spec.now c.in-Sign.inner)
-    = layer_made c.args.spec.now c.nodes.ensures.specification c.nodes.result.now c.nodes.ensures.nodes c.loop-core.node (Leaf 0)
     (Sign c.in-Sign.inner c.in-Sign.may_loop c.in-Sign.may_be_empty) lt c.in-Sign.ensures in (
       omega arith,
       λ word.
-          let h = subst (λ e. MarksWord c.args.spec.now (node_tree c.args.spec.now c.args.expr) c.args.output word
-          ↔ MarksBelow c.args.spec.now c.loop-core.marked c.loop-core.loops c.loop-core.empty e c.args.output word)
-          made (c.loop-core.invariant.1 word) in
+          let h = c.loop-core.invariant.1 word in
+          let same = below_alike (MatchesSymbol c.args.spec.now.symbols) c.loop-core.marked c.loop-core.loops c.loop-core.empty
+          (node_tree c.args.spec.now c.loop-core.node) (wrap c.in-Sign.may_loop c.in-Sign.may_be_empty (node_tree c.args.spec.now c.in-Sign.inner))
+          c.args.output
+          (layer_made c.args.spec.now c.nodes.ensures.specification c.nodes.result.now c.nodes.ensures.nodes c.loop-core.node (Leaf 0)
+          (Sign c.in-Sign.inner c.in-Sign.may_loop c.in-Sign.may_be_empty) lt c.in-Sign.ensures) (word_bits c.args.spec.now word) in
           let step = below_sign (MatchesSymbol c.args.spec.now.symbols) c.loop-core.marked c.loop-core.loops c.loop-core.empty c.in-Sign.may_loop
           c.in-Sign.may_be_empty (node_tree c.args.spec.now c.in-Sign.inner) c.args.output (word_bits c.args.spec.now word) in
-          (λ s. step.0 (h.0 s), λ s. h.1 (step.1 s)),
+          (λ s. step.0 (same.0 (h.0 s)), λ s. h.1 (same.1 (step.1 s))),
     )
 
 pub loop-core-smaller-then-named-output : goal.loop-core-smaller-then-named-output

@@ -5,6 +5,7 @@ use Rattle.rx_lang.specs.Expression.{marked}
 use Rattle.rx_lang.specs.Specification.{MatchesSymbol}
 use Rattle.rx_lang.specs.VectorWords.{SpellsWord, node_tree, word_bits}
 use Rattle.rx_lang.specs.Wrapped.{core_tree, wrap}
+use Rattle.rx_lang.proofs.Alike.{wrap_alike}
 use Rattle.rx_lang.proofs.Loops.{spells_in, spells_out, unmarked_spells}
 use Rattle.rx_lang.proofs.Layers.{IsBelow, layer_below, layer_made}
 use Rattle.rx_lang.proofs.wrapped.unwrapped.Goals as goal
@@ -50,15 +51,15 @@ loop-core-preserved-in-Sign c = (
   omega (arith, below_sign c, c.loop-core.invariant.0),
   λ word.
       let lt : c.loop-core.node < length c.args.spec.now.nodes = omega (arith, c.loop-core.invariant.0) in
-      let made : node_tree c.args.spec.now c.loop-core.node ≡ wrap c.in-Sign.may_loop c.in-Sign.may_be_empty (node_tree c.args.spec.now c.in-Sign.inner)
-      = layer_made c.args.spec.now c.nodes.ensures.specification c.nodes.result.now c.nodes.ensures.nodes c.loop-core.node (Leaf 0)
-      (Sign c.in-Sign.inner c.in-Sign.may_loop c.in-Sign.may_be_empty) lt c.in-Sign.ensures in
-      let h = subst (λ e. SpellsWord c.args.spec.now (node_tree c.args.spec.now c.args.expr) word ↔ SpellsWord c.args.spec.now (wrap c.loop-core.loops c.loop-core.empty e) word)
-      made (c.loop-core.invariant.1 word) in (
+      let same = wrap_alike (MatchesSymbol c.args.spec.now.symbols) c.loop-core.loops c.loop-core.empty (node_tree c.args.spec.now c.loop-core.node)
+      (wrap c.in-Sign.may_loop c.in-Sign.may_be_empty (node_tree c.args.spec.now c.in-Sign.inner))
+      (layer_made c.args.spec.now c.nodes.ensures.specification c.nodes.result.now c.nodes.ensures.nodes c.loop-core.node (Leaf 0)
+      (Sign c.in-Sign.inner c.in-Sign.may_loop c.in-Sign.may_be_empty) lt c.in-Sign.ensures) (word_bits c.args.spec.now word) in
+      let h = c.loop-core.invariant.1 word in (
         λ s. spells_out (MatchesSymbol c.args.spec.now.symbols) c.loop-core.loops c.loop-core.empty c.in-Sign.may_loop c.in-Sign.may_be_empty
-            (node_tree c.args.spec.now c.in-Sign.inner) (word_bits c.args.spec.now word) (h.0 s),
-        λ s. h.1 (spells_in (MatchesSymbol c.args.spec.now.symbols) c.loop-core.loops c.loop-core.empty c.in-Sign.may_loop c.in-Sign.may_be_empty
-            (node_tree c.args.spec.now c.in-Sign.inner) (word_bits c.args.spec.now word) s),
+            (node_tree c.args.spec.now c.in-Sign.inner) (word_bits c.args.spec.now word) (same.0 (h.0 s)),
+        λ s. h.1 (same.1 (spells_in (MatchesSymbol c.args.spec.now.symbols) c.loop-core.loops c.loop-core.empty c.in-Sign.may_loop c.in-Sign.may_be_empty
+            (node_tree c.args.spec.now c.in-Sign.inner) (word_bits c.args.spec.now word) s)),
       ),
 )
 
