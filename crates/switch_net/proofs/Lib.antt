@@ -18,3 +18,5 @@ pub mod SureLevels
 pub mod ToldNets
 pub mod NameKeys
 pub mod SeenPads
+pub mod Reaching
+pub mod LeastLevels

@@ -19,7 +19,7 @@ use Rattle.switch_net.proofs.SettledGroups.{group_free}
 -- ---- more conducts where more gates are high
 
 -- every gate below the number of nets that is high in the first values is high in the second
-abbrev Within : ℕ → Values → Values → Type 0
+abbrev pub Within : ℕ → Values → Values → Type 0
 Within nets a b = (net : ℕ) → net < nets → a net ≡ true → b net ≡ true
 
 module _ (nets : ℕ) (a b : Values) (within : Within nets a b) where
@@ -31,11 +31,11 @@ module _ (nets : ℕ) (a b : Values) (within : Within nets a b) where
 
 module _ (circuit : Circuit) (drives : List Bool) (a b : Values) (below : AllByRecursion (NamesBelow circuit.nets) circuit.devices)
     (within : Within circuit.nets a b) where
-  more_grouped : (m n : ℕ) → Grouped circuit drives a m n → Grouped circuit drives b m n
+  pub more_grouped : (m n : ℕ) → Grouped circuit drives a m n → Grouped circuit drives b m n
   more_grouped _ _ (here m) = here m
   more_grouped _ _ (step m n o j f r) = step m n o (more_joins circuit.nets a b within circuit.devices below m n j) f (more_grouped n o r)
 
-  more_source : (level : Bool) (net : ℕ) → Source circuit drives a level net → Source circuit drives b level net
+  pub more_source : (level : Bool) (net : ℕ) → Source circuit drives a level net → Source circuit drives b level net
   more_source level net s = record {
     from = s.from;
     to = s.to;
@@ -44,29 +44,29 @@ module _ (circuit : Circuit) (drives : List Bool) (a b : Values) (below : AllByR
     fixed = s.fixed;
   }
 
-  more_high : (net : ℕ) → IsPulledHigh circuit drives a net → IsPulledHigh circuit drives b net
+  pub more_high : (net : ℕ) → IsPulledHigh circuit drives a net → IsPulledHigh circuit drives b net
   more_high net (inl s) = inl (more_source true net s)
   more_high net (inr l) = inr (record { at = l.at; grouped = more_grouped net l.at l.grouped; load = l.load })
 
 -- ---- levels and values
 
-one_level : (a b : Bool) → level_of a ≡ level_of b → a ≡ b
+pub one_level : (a b : Bool) → level_of a ≡ level_of b → a ≡ b
 one_level true true e = refl
 one_level true false e = cc
 one_level false true e = cc
 one_level false false e = refl
 
-high_is_one : (l : Level) → is_high l ≡ true → l ≡ level_of true
+pub high_is_one : (l : Level) → is_high l ≡ true → l ≡ level_of true
 high_is_one High e = refl
 high_is_one Low e = cc
 high_is_one Unknown e = cc
 
-low_is_zero : (l : Level) → may_be_high l ≡ false → l ≡ level_of false
+pub low_is_zero : (l : Level) → may_be_high l ≡ false → l ≡ level_of false
 low_is_zero Low e = refl
 low_is_zero High e = cc
 low_is_zero Unknown e = cc
 
-unknown_is_none : (level : Bool) → level_of level ≡ Unknown → ⊥
+pub unknown_is_none : (level : Bool) → level_of level ≡ Unknown → ⊥
 unknown_is_none true e = cc
 unknown_is_none false e = cc
 

@@ -11,3 +11,4 @@ pub mod Ternary
 pub mod TernaryLogic
 pub mod NameKeys
 pub mod SeenPads
+pub mod LeastLevels

@@ -19,4 +19,6 @@ pub use network::{BadNetwork, Device, Level, Net, Network, Pad, first_missing};
 pub use no_memory::NoMemory;
 pub use same::same_networks_agree;
 pub use settling::{runs_split, settled_values_keep_to_groups};
-pub use ternary::{ternary_levels_are_sure, told_nets_settle};
+pub use ternary::{
+    settled_levels_are_least, ternary_levels_are_sure, ternary_runs_exist, told_nets_settle,
+};

@@ -1,6 +1,7 @@
 // What a ternary level says of the values of a net.
 
 ghost use Rattle.switch_net.specs.Ternary.{SettledLevelsAreSure, RunLevelsAreSure};
+ghost use Rattle.switch_net.specs.LeastLevels.{UpdatesAreMonotone, UpdatesOnlyTell, UpdatesEnd, SettledLevelsAreLeast, AnyOrderSettles, SettledLevelsExist, SettledLevelsAreOne, ClockLevelsExist, ClocksLevelsExist, RunLevelsExist, RunLevelsAreOne};
 ghost use Rattle.switch_net.specs.TernaryLogic.{ToldNetsSettle};
 
 /// A low or high level of a ternary settling is the value of the net in each settled assignment from charges that the
@@ -16,4 +17,26 @@ pub fn ternary_levels_are_sure()
 /// whatever charges are unknown. It runs nothing: a caller has the law from its contract.
 pub fn told_nets_settle()
     ensures { ToldNetsSettle }
+{}
+
+/// In the order of what levels tell an update is monotone. So updates from unknown levels on only tell more, come to their
+/// end after at most as many as there are nets, and leave the least levels that an update keeps; and nets may as well be
+/// updated one by one, in any order. It runs nothing: a caller has the laws from its contract.
+pub fn settled_levels_are_least()
+    ensures monotone { UpdatesAreMonotone }
+    ensures only_tell { UpdatesOnlyTell }
+    ensures end { UpdatesEnd }
+    ensures least { SettledLevelsAreLeast }
+    ensures any_order { AnyOrderSettles }
+{}
+
+/// From all charges a ternary settling, a clock and a run exist, and the settling and the run are one on the nets of the
+/// circuit. It runs nothing: a caller has the laws from its contract.
+pub fn ternary_runs_exist()
+    ensures settled { SettledLevelsExist }
+    ensures one_settled { SettledLevelsAreOne }
+    ensures clock { ClockLevelsExist }
+    ensures clocks { ClocksLevelsExist }
+    ensures run { RunLevelsExist }
+    ensures one_run { RunLevelsAreOne }
 {}
