@@ -21,7 +21,7 @@ use Rattle.switch_net.proofs.SureLevels.{Within, more_grouped, more_source, more
 -- ---- levels
 
 -- a level is unknown or that of a value
-known_or_not : (l : Level) → (l ≡ Unknown) ⊎ ((b : Bool) × (l ≡ level_of b))
+pub known_or_not : (l : Level) → (l ≡ Unknown) ⊎ ((b : Bool) × (l ≡ level_of b))
 known_or_not Unknown = inl refl
 known_or_not Low = inr (false, refl)
 known_or_not High = inr (true, refl)
@@ -91,7 +91,7 @@ module _ (circuit : Circuit) (valid : IsNetwork circuit) where
   same_below : (v w : Levels) → Same v w → Below v w
   same_below v w same net level lt e = sym (same net lt) ∙ e
 
-  below_same : (v w : Levels) → Below v w → Below w v → Same v w
+  pub below_same : (v w : Levels) → Below v w → Below w v → Same v w
   below_same v w one other net lt = told_same (v net) (w net) (λ level e. one net level lt e) (λ level e. other net level lt e)
 
   same_back : (v w : Levels) → Same v w → Same w v
@@ -447,7 +447,7 @@ module _ (circuit : Circuit) (valid : IsNetwork circuit) where
 
     -- ---- the least levels that an update keeps
 
-    after_least : (q : Levels) (n : ℕ) (v w : Levels) → AfterUpdates circuit drives q n v → Updates circuit drives q w w → Below v w
+    pub after_least : (q : Levels) (n : ℕ) (v w : Levels) → AfterUpdates circuit drives q n v → Updates circuit drives q w w → Below v w
     after_least q zero v w after kept = start_least v w after kept.fixed
     after_least q (suc n) v w after kept = monotone q q after.0 w v w (self_below q) (after_least q n after.0 w after.1 kept) after.2 kept
 
@@ -474,7 +474,7 @@ module _ (circuit : Circuit) (valid : IsNetwork circuit) where
         below_same v w (after_more p q (same_below p q same) (suc circuit.nets) (suc circuit.nets) v w (omega arith) one other)
         (after_more q p (same_below q p (same_back p q same)) (suc circuit.nets) (suc circuit.nets) w v (omega arith) other one)
 
-    settled_alike : (q v w : Levels) → Same v w → SettledLevels circuit drives q v → SettledLevels circuit drives q w
+    pub settled_alike : (q v w : Levels) → Same v w → SettledLevels circuit drives q v → SettledLevels circuit drives q w
     settled_alike q v w same settled = (settled.0, settled.1, updates_alike q settled.0 v w same settled.2)
 
     pub any_order : (q v : Levels) → IsReachedByOnes circuit drives q v → Updates circuit drives q v v → SettledLevels circuit drives q v

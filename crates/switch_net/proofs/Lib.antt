@@ -20,3 +20,5 @@ pub mod NameKeys
 pub mod SeenPads
 pub mod Reaching
 pub mod LeastLevels
+pub mod Carried
+pub mod SameRuns

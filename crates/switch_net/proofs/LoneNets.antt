@@ -40,7 +40,7 @@ module _ (circuit : Circuit) (drives : List Bool) (v : Values) where
     high_leads = λ e. absurd (cc);
   }
 
-  group_alone : (net m : ℕ) (low high : Bool) → LoneNet net low high → Grouped circuit drives v net m → m ≡ net
+  pub group_alone : (net m : ℕ) (low high : Bool) → LoneNet net low high → Grouped circuit drives v net m → m ≡ net
   group_alone _ _ low high lone (here a) = refl
   group_alone _ _ low high lone (step a b m j f r) = absurd (lone.alone b j f)
 

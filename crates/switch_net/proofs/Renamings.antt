@@ -160,7 +160,7 @@ as_many one other s = (
 -- ---- what a renaming carries over
 
 -- the renamed devices of the one network
-abbrev placed : (ℕ → ℕ) → Device → Device
+abbrev pub placed : (ℕ → ℕ) → Device → Device
 placed rename device = ascending (renamed_device rename device)
 
 module _ (one other : Circuit) (s : IsSameNetwork one other) where
@@ -168,14 +168,14 @@ module _ (one other : Circuit) (s : IsSameNetwork one other) where
   nets_of_pads = sym (map-map (λ pad. pad.net.0) (renamed_pad s.rename) one.pads) ∙ ap (map (λ pad. pad.net.0)) s.pads
 
   -- a device of the one network stands in the other
-  device_carried : (device : Device) → In device one.devices
+  pub device_carried : (device : Device) → In device one.devices
       → (there : Device) × In there other.devices × (ascending there ≡ placed s.rename device)
   device_carried device at =
       map_in ascending (placed s.rename device) other.devices
       (contains_in _ _ (Contains-permutation _ _ _ s.devices (in_contains _ _ (in_map (placed s.rename) device one.devices at))))
 
   -- and the other way round
-  device_brought : (there : Device) → In there other.devices
+  pub device_brought : (there : Device) → In there other.devices
       → (device : Device) × In device one.devices × (placed s.rename device ≡ ascending there)
   device_brought there at =
       map_in (placed s.rename) (ascending there) one.devices
@@ -189,7 +189,7 @@ module _ (one other : Circuit) (s : IsSameNetwork one other) where
       let there = in_map (λ pad. s.rename pad.net.0) pad.0 one.pads pad.1 in
       rw (← nets_of_pads, ← pad.2) there
 
-  carried : (net : ℕ) → In net (touched one) → In (s.rename net) (touched other)
+  pub carried : (net : ℕ) → In net (touched one) → In (s.rename net) (touched other)
   carried net at =
       elim (in_either net (map (λ pad. pad.net.0) one.pads) (flat_map device_nets one.devices) at) [
         | inl pad ↦ in_left _ _ _ (pad_carried net pad)
@@ -201,7 +201,7 @@ module _ (one other : Circuit) (s : IsSameNetwork one other) where
       ]
 
   -- and each touched net of the other network is one
-  brought : (net : ℕ) → In net (touched other) → (from : ℕ) × In from (touched one) × (s.rename from ≡ net)
+  pub brought : (net : ℕ) → In net (touched other) → (from : ℕ) × In from (touched one) × (s.rename from ≡ net)
   brought net at =
       elim (in_either net (map (λ pad. pad.net.0) other.pads) (flat_map device_nets other.devices) at) [
         | inl there ↦
@@ -304,7 +304,7 @@ module _ (one other : Circuit) (s : IsSameNetwork one other) where
       (λ net named. returns net (in_right _ _ _ (in_flat device_nets device net one.devices at named)))
       ∙ renamed-self device)
 
-  inverted : IsSameNetwork other one
+  pub inverted : IsSameNetwork other one
   inverted = record {
     rename = inverse;
     apart = λ a b touches touches' e. inverse_apart a b (contains_in _ _ touches) (contains_in _ _ touches') e;
@@ -317,6 +317,11 @@ module _ (one other : Circuit) (s : IsSameNetwork one other) where
         (placed_placed s.rename inverse one.devices ∙ map_agree _ _ one.devices device_returns)
         (IsPermutation-map (placed inverse) _ _ (IsPermutation-sym _ _ s.devices));
   }
+
+  -- the renaming of the way back takes a renamed net to itself
+  pub goes_back : (net : ℕ) → In net (touched one) → inverted.rename (s.rename net) ≡ net
+  unfolding inverted
+  goes_back net at = returns net at
 
 pub symmetric : SameIsSymmetric
 symmetric one other s = inverted one other s

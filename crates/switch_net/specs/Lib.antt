@@ -12,3 +12,4 @@ pub mod TernaryLogic
 pub mod NameKeys
 pub mod SeenPads
 pub mod LeastLevels
+pub mod SameRuns

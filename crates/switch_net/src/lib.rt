@@ -17,7 +17,7 @@ pub use keys::{NameKey, name_key};
 pub use laws::clocked_logic_settles;
 pub use network::{BadNetwork, Device, Level, Net, Network, Pad, first_missing};
 pub use no_memory::NoMemory;
-pub use same::same_networks_agree;
+pub use same::{same_networks_agree, same_networks_run_alike};
 pub use settling::{runs_split, settled_values_keep_to_groups};
 pub use ternary::{
     settled_levels_are_least, ternary_levels_are_sure, ternary_runs_exist, told_nets_settle,
