@@ -1,17 +1,15 @@
 -- One more gate and one more net, as at the steps of the loops that build the switch form; and that its parts are a network.
 use Rattle.std.specs.Prelude.{flat_map}
-use Rattle.std.proofs.Common.{◌≡◌, inl, inr, ℕ, zero, suc, ◌+◌, ◌<◌, ◌==◌, ◌||◌, Bool, true, false, List, [], ◌∷◌, ◌++◌, append_assoc, length, take, slice_index_or, slice_set, Some, None, refl, ap, sym, ◌∙◌, arith, eq-eqb, eqb-true}
+use Rattle.std.proofs.Common.{◌≡◌, inl, inr, ℕ, zero, suc, ◌+◌, ◌<◌, ◌==◌, ◌||◌, Bool, true, false, List, [], ◌∷◌, ◌++◌, append_assoc, length, take, slice_index_or, slice_set, refl, ap, sym, ◌∙◌, arith, eq-eqb, eqb-true}
 use Rattle.std.specs.List.{range_with_len}
 use Rattle.std.proofs.lemmas.Bool.{cases_Bool}
 use Rattle.std.proofs.lemmas.List.{get_or-set_same, get_or-set_other, length-set}
 use Rattle.std.proofs.lemmas.List.Folds.{list_any_more}
-use Rattle.switch_net.specs.Validity.{IsNetwork, FaultlessIsNetwork, first_fault}
-use Rattle.switch_net.specs.declared.network.BadNetwork.{BadNetwork}
-use Rattle.switch_net.specs.declared.network.Pad.{Pad}
+use Rattle.switch_net.specs.Validity.{IsNetwork}
 use Rattle.switch_net.specs.declared.network.Device.{Device}
 use Rattle.nor_net.specs.Netlist.{NorGate, Netlist, IsNetlist}
 use Rattle.nor_net.specs.Evaluation.{is_output, value_at}
-use Rattle.nor_net.specs.SwitchForm.{Lists, load_at, devices_of, switch_form}
+use Rattle.nor_net.specs.SwitchForm.{Lists, load_at, switch_form}
 use Rattle.nor_net.proofs.FormLogic.{is_logic}
 
 or_true : (b : Bool) → (b || true) ≡ true
@@ -75,15 +73,3 @@ form_network netlist valid = record {
   phi2 = valid.pads.phi2;
   reset = valid.pads.reset;
 }
-
--- parts that are those of the switch form have no fault
-pub never_faulty : FaultlessIsNetwork → (netlist : Netlist) → IsNetlist netlist → (nets : ℕ) (pads : List Pad) (devices : List Device)
-    (fault : BadNetwork) → nets ≡ netlist.nets → pads ≡ netlist.pads → devices ≡ devices_of netlist
-    → Some fault ≡ first_fault nets pads devices → ⊥
-never_faulty law netlist valid nets pads devices fault n p d e =
-    let faultless = (law (switch_form netlist)).0 (form_network netlist valid) in
-    let same : first_fault nets pads devices ≡ first_fault netlist.nets netlist.pads (devices_of netlist) = rw (n, p, d) refl in
-    apart (e ∙ same ∙ faultless)
-  where
-    apart : {x : BadNetwork} → Some x ≡ None → ⊥
-    apart e = cc

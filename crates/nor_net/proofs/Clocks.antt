@@ -11,7 +11,7 @@ use Rattle.nor_net.specs.Evaluation.{is_high, evaluated, driven, phase, settled,
 use Rattle.nor_net.specs.SwitchForm.{switch_form, Lists, Computes}
 use Rattle.nor_net.proofs.Pads.{drives_sized}
 use Rattle.nor_net.proofs.NetKinds.{kind_of}
-use Rattle.nor_net.proofs.FormLogic.{low, is_logic, is_levelled}
+use Rattle.nor_net.proofs.FormLogic.{low, is_logic, has_order}
 use Rattle.nor_net.proofs.Order.{evaluation_gives}
 
 module _ (settles_as : SettlesAsLogic) (settles : LogicSettles) (netlist : Netlist) (valid : IsNetlist netlist) where
@@ -26,7 +26,7 @@ module _ (settles_as : SettlesAsLogic) (settles : LogicSettles) (netlist : Netli
     pub phase_exists : (q : Values) → (v : Values) × Settled (switch_form netlist) (drives_of drive netlist.pads) q v
     phase_exists q =
         settles (switch_form netlist) (low netlist valid) (kind_of netlist) (is_logic netlist valid) (drives_of drive netlist.pads)
-        (drives_sized drive drive.lines netlist.pads) (place order) (is_levelled netlist valid drive order ordered.gates open_ordered) q
+        (drives_sized drive drive.lines netlist.pads) (place order) (has_order netlist valid drive order ordered.gates open_ordered) q
 
     pub phase_gives : (q v : Values) (state : List Bool) → Settled (switch_form netlist) (drives_of drive netlist.pads) q v
         → Lists netlist.nets state q

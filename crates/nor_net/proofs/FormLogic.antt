@@ -8,7 +8,7 @@ use Rattle.rx_text.specs.declared.pad_name.Role.{Role}
 use Rattle.rx_text.specs.declared.pad_name.Role.TheVariants.{Gnd, Phi1, Phi2}
 use Rattle.switch_net.specs.Settling.{fixed_level}
 use Rattle.switch_net.specs.Clock.{Drive, drives_of}
-use Rattle.switch_net.specs.ClockedLogic.{is_fixed, IsLogicDevice, NamesBelow, IsClockedLogic, IsLevelled}
+use Rattle.switch_net.specs.ClockedLogic.{is_fixed, IsLogicDevice, NamesBelow, IsClockedLogic, IsEvaluationOrder}
 use Rattle.switch_net.specs.ClockedLogic.NetKind.{fixed, gate}
 use Rattle.switch_net.specs.Validity.{HasRole}
 use Rattle.switch_net.specs.declared.network.Pad.{Pad}
@@ -157,8 +157,8 @@ module _ (netlist : Netlist) (valid : IsNetlist netlist) where
   module _ (drive : Drive) (order : List ℕ)
       (gates_ordered : All (λ g. All (λ input. place order input < place order g.out) g.inputs) netlist.gates)
       (open_ordered : All (λ transfer. is_high drive transfer.clock ≡ true → place order transfer.from < place order transfer.to) netlist.transfers) where
-    pub is_levelled : IsLevelled (switch_form netlist) low (kind_of netlist) (drives_of drive netlist.pads) (place order)
-    is_levelled = record {
+    pub has_order : IsEvaluationOrder (switch_form netlist) low (kind_of netlist) (drives_of drive netlist.pads) (place order)
+    has_order = record {
       inputs = λ input a c. All-contains (IsBelow order) _ _
           (every (IsBelow order) netlist (λ net lt o. tt) (λ k d lt j e jl low_is. gates_ordered k d lt j e jl)
           (λ k d lt low_is. absurd (not_low _ (valid.transfers k d lt) low_is))) c refl;

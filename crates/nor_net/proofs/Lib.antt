@@ -9,7 +9,6 @@ pub mod Building
 pub mod ExampleRegister
 pub mod Solutions
 pub mod Lifting
-pub mod FewPads
 pub mod Orders
 pub mod KnownNets
 pub mod KnownRuns

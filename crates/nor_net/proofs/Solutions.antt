@@ -65,6 +65,8 @@ module _ (settles_as : SettlesAsLogic) (settles : LogicSettles) (netlist : Netli
       pads = λ net level lt e. sym (after.1 net lt) ∙ follows.pads net level lt e;
       gates = gate_solved;
       transfers = λ transfer c. at_place c.0 transfer c.1 c.2;
+      undriven = λ net lt unfixed no_gate no_transfer.
+          sym (after.1 net lt) ∙ follows.isolated net lt (rw (unfixed, no_gate, no_transfer) refl) ∙ before.1 net lt;
     }
       where
         at_place : (k : ℕ) (transfer : Transfer) → k < length netlist.transfers → slice_index_or netlist.transfers k transfer ≡ transfer

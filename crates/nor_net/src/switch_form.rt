@@ -18,7 +18,6 @@ use crate::netlist::NorNet;
 use crate::no_memory::NoMemory;
 use rx_text::Role;
 use std::alloc::Global;
-use switch_net::network::faultless_is_network;
 use switch_net::{Device, Net, Network, Pad, clocked_logic_settles, told_nets_settle};
 
 /// Makes the switch network of the netlist, on the same nets: one load for each gate output, a pass device to ground for
@@ -40,13 +39,9 @@ pub fn to_switch(alloc: Global, net: &NorNet) -> Result<Network, NoMemory>
 {
     clocked_logic_settles();
     told_nets_settle();
-    faultless_is_network();
     let pads = Vec::from_slice(alloc, net.pads())?;
     let devices = devices_of(alloc, net)?;
-    match Network::new(net.nets(), pads, devices) {
-        Ok(network) => Ok(network),
-        Err(_) => unreachable!(),
-    }
+    Ok(Network::from_parts(net.nets(), pads, devices))
 }
 
 /// All devices: the loads, the pull-downs of each gate, and the transfers.

@@ -9,8 +9,9 @@ use Rattle.switch_net.specs.ClockedLogic.{NamesBelow}
 use Rattle.switch_net.specs.Settling.{fixed_level, IsFree, IsPulledLow, IsPulledHigh}
 use Rattle.switch_net.specs.Settling.Grouped.{here}
 use Rattle.switch_net.specs.Ternary.{Levels, level_of, is_high, may_be_high, sure, possible, KeepsCharge, RisesSurely, UpdatedAt, AreDriven, Updates, StartsUnknown, AfterUpdates, SettledLevels, ClockLevels, ClocksLevels, RunLevels}
-use Rattle.switch_net.specs.LeastLevels.{IsRefinedBy, HaveSameLevels, AllHaveSameLevels, IsReachedByOnes, UpdatesAreMonotone, UpdatesOnlyTell, UpdatesEnd, SettledLevelsAreLeast, AnyOrderSettles, SettledLevelsExist, SettledLevelsAreOne, ClockLevelsExist, ClocksLevelsExist, RunLevelsExist, RunLevelsAreOne}
-use Rattle.switch_net.specs.LeastLevels.IsReachedByOnes.{begun, told}
+use Rattle.switch_net.specs.LeastLevels.{IsRefinedBy, HaveSameLevels, AllHaveSameLevels, Tells, AreToldByOnes, NoneIsTold, SettledLevelsAlike, UpdatesAreMonotone, UpdatesOnlyTell, UpdatesEnd, SettledLevelsAreLeast, AnyOrderSettles, SettledLevelsExist, SettledLevelsAreOne, ClockLevelsExist, ClocksLevelsExist, RunLevelsExist, RunLevelsAreOne}
+use Rattle.switch_net.specs.LeastLevels.AreToldByOnes.{unknown, one_more}
+use Rattle.switch_net.specs.LeastLevels.Tells.{pulled_low, rises, keeps}
 use Rattle.switch_net.specs.Validity.{IsNetwork}
 use Rattle.switch_net.specs.declared.network.Level.{Level}
 use Rattle.switch_net.specs.declared.network.Level.TheVariants.{Low, High, Unknown}
@@ -246,8 +247,8 @@ module _ (circuit : Circuit) (valid : IsNetwork circuit) where
         },
       )
 
-      rises : RisesSurely circuit drives v net → Decided
-      rises r = (
+      will_rise : RisesSurely circuit drives v net → Decided
+      will_rise r = (
         High,
         λ w e. record {
           low = λ t. absurd (r.not_low (sure_may t));
@@ -257,8 +258,8 @@ module _ (circuit : Circuit) (valid : IsNetwork circuit) where
         },
       )
 
-      keeps : (level : Bool) → KeepsCharge circuit drives q v net level → Decided
-      keeps level k = (
+      will_keep : (level : Bool) → KeepsCharge circuit drives q v net level → Decided
+      will_keep level k = (
         level_of level,
         λ w e. record {
           low = λ t. absurd (k.not_low (sure_may t));
@@ -312,11 +313,11 @@ module _ (circuit : Circuit) (valid : IsNetwork circuit) where
           elim (source_or_not circuit drives (sure v) false net free.0) [
             | inl s ↦ is_low s
             | inr not_low ↦ elim rises_or_not [
-              | inl r ↦ rises r
+              | inl r ↦ will_rise r
               | inr not_rising ↦ elim (keeps_or_not false) [
-                | inl k ↦ keeps false k
+                | inl k ↦ will_keep false k
                 | inr not_false ↦ elim (keeps_or_not true) [
-                  | inl k ↦ keeps true k
+                  | inl k ↦ will_keep true k
                   | inr not_true ↦ none_of not_low not_rising (by_both not_false not_true)
                 ]
               ]
@@ -451,20 +452,104 @@ module _ (circuit : Circuit) (valid : IsNetwork circuit) where
     after_least q zero v w after kept = start_least v w after kept.fixed
     after_least q (suc n) v w after kept = monotone q q after.0 w v w (self_below q) (after_least q n after.0 w after.1 kept) after.2 kept
 
-    ones_below : (q v w : Levels) → IsReachedByOnes circuit drives q v → Updates circuit drives q w w → Below v w
-    ones_below q _ w (begun v start) kept = start_least v w start kept.fixed
-    ones_below q _ w (told u v before one) kept = by (ones_below q u w before kept)
+    -- what is told is what the next update leaves
+    tells_more : (p q v w : Levels) (net : ℕ) (level : Bool) → Below p q → Below v w → IsFree circuit drives net → Tells circuit drives p v net level
+        → Tells circuit drives q w net level
+    tells_more p q v w net _ charges h free (pulled_low l) = pulled_low (low_more v w h net l)
+    tells_more p q v w net _ charges h free (rises r) = rises (rises_more v w h net r)
+    tells_more p q v w net _ charges h free (keeps level k) = keeps level (keeps_more v w h net p q charges free level k)
+
+    told_level : (q v w : Levels) (net : ℕ) (level : Bool) → UpdatedAt circuit drives q v w net → Tells circuit drives q v net level → w net ≡ level_of level
+    told_level q v w net _ updated (pulled_low l) = updated.low l
+    told_level q v w net _ updated (rises r) = updated.high r
+    told_level q v w net _ updated (keeps level k) = updated.kept level k
+
+    -- levels that an update keeps tell all that is told one by one
+    ones_below : (q v w : Levels) → AreToldByOnes circuit drives q v → Updates circuit drives q w w → Below v w
+    ones_below q _ w (unknown v start) kept = start_least v w start kept.fixed
+    ones_below q _ w (one_more u v before one) kept = by (ones_below q u w before kept)
       where
         by : Below u w → Below v w
         by lower net level lt e =
             elim (cases_Bool (net == one.net)) [
               | inl at ↦
-                  let same : one.net ≡ net = sym (eqb-true _ _ at) in
-                  let free : IsFree circuit drives net = subst (IsFree circuit drives) same one.free in
-                  let updated : UpdatedAt circuit drives q u v net = subst (UpdatedAt circuit drives q u v) same one.updated in
-                  updated_more q q u w v w (self_below q) lower net free updated (kept.free net free) level e
+                  let same : net ≡ one.net = eqb-true _ _ at in
+                  let lower_seen : Below one.seen w = λ n l below_n f. lower n l below_n (one.before n l below_n f) in
+                  let told = told_level q w w one.net one.level (kept.free one.net one.free)
+                  (tells_more q q one.seen w one.net one.level (self_below q) lower_seen one.free one.tells) in
+                  let is : one.level ≡ level = one_level one.level level (sym one.told ∙ ap v (sym same) ∙ e) in
+                  ap w same ∙ told ∙ ap level_of is
               | inr other ↦ lower net level lt (sym (one.others net lt (eqb-false _ _ other)) ∙ e)
             ]
+
+    -- each net that is told is told so by the levels
+    abbrev AllTold : Levels → Levels → Type 0
+    AllTold q v = (net : ℕ) (level : Bool) → IsFree circuit drives net → v net ≡ level_of level → Tells circuit drives q v net level
+
+    abbrev Grown : Levels → Levels → Type 0
+    Grown q v = AreDriven circuit drives v × AllTold q v
+
+    grown : (q v : Levels) → AreToldByOnes circuit drives q v → ((w : Levels) → Updates circuit drives q w w → Below v w) → Grown q v
+    grown q _ (unknown v start) least = (start.fixed, λ net level free e. absurd (unknown_is_none level (sym e ∙ start.free net free)))
+    grown q _ (one_more u v before one) least = by (grown q u before (λ w kept. ones_below q u w before kept))
+      where
+        rise : Grown q u → Below u v
+        rise old net level lt e =
+            elim (cases_Bool (net == one.net)) [
+              | inl at ↦
+                  let same : net ≡ one.net = eqb-true _ _ at in
+                  let told_before = old.1 one.net level one.free (ap u (sym same) ∙ e) in
+                  let lower_seen : Below one.seen u = one.before in
+                  let told_now = tells_more q q one.seen u one.net one.level (self_below q) lower_seen one.free one.tells in
+                  let next = update_exists q u in
+                  let first = told_level q u next.0 one.net level (next.1.free one.net one.free) told_before in
+                  let second = told_level q u next.0 one.net one.level (next.1.free one.net one.free) told_now in
+                  let is : one.level ≡ level = one_level one.level level (sym second ∙ first) in
+                  ap v same ∙ one.told ∙ ap level_of is
+              | inr other ↦ one.others net lt (eqb-false _ _ other) ∙ e
+            ]
+
+        by : Grown q u → Grown q v
+        by old = (
+          λ net level lt e. elim (cases_Bool (net == one.net)) [
+            | inl at ↦
+                let same : net ≡ one.net = eqb-true _ _ at in
+                let none : Some level ≡ None = sym e ∙ ap f same ∙ one.free.1 in
+                absurd (cc)
+            | inr other ↦ one.others net lt (eqb-false _ _ other) ∙ old.0 net level lt e
+          ],
+          λ net level free e. elim (cases_Bool (net == one.net)) [
+            | inl at ↦
+                let same : one.net ≡ net = sym (eqb-true _ _ at) in
+                let seen_below : Below one.seen v = λ n l lt g. rise old n l lt (one.before n l lt g) in
+                let tells = tells_more q q one.seen v one.net one.level (self_below q) seen_below one.free one.tells in
+                let is : one.level ≡ level = one_level one.level level (sym one.told ∙ ap v same ∙ e) in
+                subst (λ n. Tells circuit drives q v n level) same (subst (Tells circuit drives q v one.net) is tells)
+            | inr other ↦
+                tells_more q q u v net level (self_below q) (rise old) free
+                (old.1 net level free (sym (one.others net free.0 (eqb-false _ _ other)) ∙ e))
+          ],
+        )
+
+    -- levels that are told so, and by which no further net is told, are kept by an update
+    none_told_kept : (q v : Levels) → Grown q v → NoneIsTold circuit drives q v → Updates circuit drives q v v
+    none_told_kept q v old none = record {
+      fixed = old.0;
+      free = λ net free. elim (known_or_not (v net)) [
+        | inl no_level ↦ record {
+          low = λ l. absurd (none net false free no_level (pulled_low l));
+          high = λ r. absurd (none net true free no_level (rises r));
+          kept = λ level k. absurd (none net level free no_level (keeps level k));
+          unknown = λ _ _ _. no_level;
+        }
+        | inr known ↦
+            let d = decided q v net free in
+            let next : Levels = λ _. d.0 in
+            let updated = d.1 next refl in
+            let is : v net ≡ d.0 = known.1 ∙ sym (told_level q v next net known.0 updated (old.1 net known.0 free known.1)) in
+            d.1 v is
+      ];
+    }
 
     pub settled_exist : (q : Levels) → (v : Levels) × SettledLevels circuit drives q v
     settled_exist q = after_exists q (suc circuit.nets)
@@ -477,11 +562,12 @@ module _ (circuit : Circuit) (valid : IsNetwork circuit) where
     pub settled_alike : (q v w : Levels) → Same v w → SettledLevels circuit drives q v → SettledLevels circuit drives q w
     settled_alike q v w same settled = (settled.0, settled.1, updates_alike q settled.0 v w same settled.2)
 
-    pub any_order : (q v : Levels) → IsReachedByOnes circuit drives q v → Updates circuit drives q v v → SettledLevels circuit drives q v
-    any_order q v reached kept =
+    pub any_order : (q v : Levels) → AreToldByOnes circuit drives q v → NoneIsTold circuit drives q v → SettledLevels circuit drives q v
+    any_order q v ones none =
+        let kept = none_told_kept q v (grown q v ones (λ w k. ones_below q v w ones k)) none in
         let s = settled_exist q in
         let stable = updates_end q s.0 (suc circuit.nets) (omega arith) s.1 in
-        settled_alike q s.0 v (below_same s.0 v (after_least q (suc circuit.nets) s.0 v s.1 kept) (ones_below q v s.0 reached stable)) s.1
+        settled_alike q s.0 v (below_same s.0 v (after_least q (suc circuit.nets) s.0 v s.1 kept) (ones_below q v s.0 ones stable)) s.1
 
   -- ---- clocks and runs
 
@@ -561,7 +647,10 @@ settled_levels_are_least circuit valid drives q v settled = (
 )
 
 pub any_order_settles : AnyOrderSettles
-any_order_settles circuit valid drives q v reached kept = any_order circuit valid drives q v reached kept
+any_order_settles circuit valid drives q v ones none = any_order circuit valid drives q v ones none
+
+pub settled_levels_alike : SettledLevelsAlike
+settled_levels_alike circuit valid drives q v w same settled = settled_alike circuit valid drives q v w same settled
 
 pub settled_levels_exist : SettledLevelsExist
 settled_levels_exist circuit valid drives q = settled_exist circuit valid drives q

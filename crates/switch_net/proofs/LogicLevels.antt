@@ -4,7 +4,7 @@ use Rattle.std.proofs.lemmas.Bool.{cases_Bool}
 use Rattle.std.proofs.lemmas.List.Elements.{All-contains}
 use Rattle.switch_net.proofs.LogicNets as nets
 use Rattle.switch_net.proofs.LogicNets.{Setting, Transfer}
-use Rattle.switch_net.specs.ClockedLogic.{NetKind, NamesBelow, IsLevelled, FollowsLogic, pulls_down}
+use Rattle.switch_net.specs.ClockedLogic.{NetKind, NamesBelow, IsEvaluationOrder, FollowsLogic, pulls_down}
 use Rattle.switch_net.specs.ClockedLogic.NetKind.{fixed, gate, stored, isolated}
 use Rattle.switch_net.specs.Settling.{Values, fixed_level}
 use Rattle.switch_net.specs.declared.network.Device.{Device}
@@ -62,7 +62,7 @@ module _ (s : Setting) where
   high_level None e = absurd (cc)
 
   -- equations are alike at values that agree below the net
-  equation_alike : (level : ℕ → ℕ) → IsLevelled circuit ground kind drives level → (q v w : Values) (net : ℕ) → net < circuit.nets
+  equation_alike : (level : ℕ → ℕ) → IsEvaluationOrder circuit ground kind drives level → (q v w : Values) (net : ℕ) → net < circuit.nets
       → AgreeBelow level (level net) v w → (k : NetKind) → kind net ≡ k → equation s q v net k ≡ equation s q w net k
   equation_alike level levelled q v w net below same fixed e = refl
   equation_alike level levelled q v w net below same isolated e = refl
@@ -125,7 +125,7 @@ module _ (s : Setting) where
     }
 
   -- each round leaves the nets below it as they are
-  rounds_agree : (level : ℕ → ℕ) → IsLevelled circuit ground kind drives level → (q : Values) (n m : ℕ) (net : ℕ)
+  rounds_agree : (level : ℕ → ℕ) → IsEvaluationOrder circuit ground kind drives level → (q : Values) (n m : ℕ) (net : ℕ)
       → net < circuit.nets → level net < n → level net < m → rounds s q n net ≡ rounds s q m net
   rounds_agree level levelled q zero m net below h h' = absurd (omega arith)
   rounds_agree level levelled q (suc n) zero net below h h' = absurd (omega arith)
@@ -137,7 +137,7 @@ module _ (s : Setting) where
   abbrev pub reached : (ℕ → ℕ) → Values → Values
   reached level q net = rounds s q (suc (level net)) net
 
-  pub reached_follows : (level : ℕ → ℕ) → IsLevelled circuit ground kind drives level → (q : Values)
+  pub reached_follows : (level : ℕ → ℕ) → IsEvaluationOrder circuit ground kind drives level → (q : Values)
       → FollowsLogic circuit ground kind drives q (reached level q)
   reached_follows level levelled q =
       follows_from_equations q (reached level q)
@@ -146,7 +146,7 @@ module _ (s : Setting) where
       (kind net) refl)
 
   -- values of the logic are those of enough rounds
-  follows_rounds : (level : ℕ → ℕ) → IsLevelled circuit ground kind drives level → (q v : Values)
+  follows_rounds : (level : ℕ → ℕ) → IsEvaluationOrder circuit ground kind drives level → (q v : Values)
       → FollowsLogic circuit ground kind drives q v → (n net : ℕ) → net < circuit.nets → level net < n → v net ≡ rounds s q n net
   follows_rounds level levelled q v values zero net below h = absurd (omega arith)
   follows_rounds level levelled q v values (suc n) net below h =
@@ -154,7 +154,7 @@ module _ (s : Setting) where
       ∙ equation_alike level levelled q v (rounds s q n) net below
       (λ input below' lower. follows_rounds level levelled q v values n input below' (omega arith)) (kind net) refl
 
-  pub follows_agree : (level : ℕ → ℕ) → IsLevelled circuit ground kind drives level → (q v w : Values)
+  pub follows_agree : (level : ℕ → ℕ) → IsEvaluationOrder circuit ground kind drives level → (q v w : Values)
       → FollowsLogic circuit ground kind drives q v → FollowsLogic circuit ground kind drives q w
       → (net : ℕ) → net < circuit.nets → v net ≡ w net
   follows_agree level levelled q v w values values' net below =

@@ -3,7 +3,7 @@ use Rattle.std.proofs.Common.{map, ◌≡◌, ◌↔◌, ℕ, zero, suc, ◌<◌
 use Rattle.std.proofs.lemmas.List.Elements.{All-from_recursion, All-contains}
 use Rattle.switch_net.proofs.LogicLaws.{settles_as_logic, logic_settles}
 use Rattle.switch_net.specs.Clock.{first_bit, drives_of, Phase, Clock, Clocks}
-use Rattle.switch_net.specs.ClockedLogic.{NetKind, is_fixed, IsLogicDevice, NamesBelow, IsClockedLogic, IsLevelled}
+use Rattle.switch_net.specs.ClockedLogic.{NetKind, is_fixed, IsLogicDevice, NamesBelow, IsClockedLogic, IsEvaluationOrder}
 use Rattle.switch_net.specs.ClockedLogic.NetKind.{fixed, gate, stored}
 use Rattle.switch_net.specs.Examples.{net_at, pads, register, RegisterStores, RegisterRuns, RegisterFollows}
 use Rattle.switch_net.specs.Settling.{Values, HasLoad}
@@ -105,7 +105,7 @@ inputs_lower =
     )
 
 -- every net is its own level: gates and transfers lead from lower nets to higher ones
-levelled : (drives : List Bool) → IsLevelled register 1 kind drives (λ net. net)
+levelled : (drives : List Bool) → IsEvaluationOrder register 1 kind drives (λ net. net)
 levelled drives = record {
   inputs = λ input a contained.
       All-contains InputIsLower register.devices (Pass input a (net_at 1)) inputs_lower contained input a refl;

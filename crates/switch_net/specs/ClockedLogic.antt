@@ -78,11 +78,12 @@ pub record FollowsLogic (circuit : Circuit) (ground : ℕ) (kind : ℕ → NetKi
   pub held : (net clock source : ℕ) → net < circuit.nets → kind net ≡ stored clock source → v clock ≡ false → v net ≡ q net
   pub isolated : (net : ℕ) → net < circuit.nets → kind net ≡ isolated → v net ≡ q net
 
--- The nets have levels: an input of a gate lies below its output, and a source below a storage node whose clock is high.
-pub record IsLevelled (circuit : Circuit) (ground : ℕ) (kind : ℕ → NetKind) (drives : List Bool) (level : ℕ → ℕ) : Type 0 where
-  pub inputs : (input a : Net) → Contains circuit.devices (Pass input a (record { 0 = ground })) → level input.0 < level a.0
+-- The nets can be evaluated in the order of their numbers: an input of a gate stands before its output, and a source before a storage
+-- node whose clock is high.
+pub record IsEvaluationOrder (circuit : Circuit) (ground : ℕ) (kind : ℕ → NetKind) (drives : List Bool) (place : ℕ → ℕ) : Type 0 where
+  pub inputs : (input a : Net) → Contains circuit.devices (Pass input a (record { 0 = ground })) → place input.0 < place a.0
   pub sources : (net clock source : ℕ) → net < circuit.nets → kind net ≡ stored clock source
-      → fixed_level circuit.pads drives clock ≡ Some true → level source < level net
+      → fixed_level circuit.pads drives clock ≡ Some true → place source < place net
 
 -- Settled values of clocked logic are those of the logic, whatever the charges.
 abbrev pub SettlesAsLogic : Type 0
@@ -90,32 +91,32 @@ SettlesAsLogic = (circuit : Circuit) (ground : ℕ) (kind : ℕ → NetKind) →
     → (drives : List Bool) → length drives ≡ length circuit.pads
     → (q v : Values) → Settled circuit drives q v ↔ FollowsLogic circuit ground kind drives q v
 
--- Levelled clocked logic settles from all charges.
+-- Clocked logic whose nets can be evaluated in an order settles from all charges.
 abbrev pub LogicSettles : Type 0
 LogicSettles = (circuit : Circuit) (ground : ℕ) (kind : ℕ → NetKind) → IsClockedLogic circuit ground kind
     → (drives : List Bool) → length drives ≡ length circuit.pads
-    → (level : ℕ → ℕ) → IsLevelled circuit ground kind drives level
+    → (place : ℕ → ℕ) → IsEvaluationOrder circuit ground kind drives place
     → (q : Values) → (v : Values) × Settled circuit drives q v
 
--- Levelled clocked logic settles to one assignment only.
+-- Clocked logic whose nets can be evaluated in an order settles to one assignment only.
 abbrev pub LogicIsDetermined : Type 0
 LogicIsDetermined = (circuit : Circuit) (ground : ℕ) (kind : ℕ → NetKind) → IsClockedLogic circuit ground kind
     → (drives : List Bool) → length drives ≡ length circuit.pads
-    → (level : ℕ → ℕ) → IsLevelled circuit ground kind drives level
+    → (place : ℕ → ℕ) → IsEvaluationOrder circuit ground kind drives place
     → (q v w : Values) → Settled circuit drives q v → Settled circuit drives q w
     → (net : ℕ) → net < circuit.nets → v net ≡ w net
 
--- Levelled clocked logic has values of its logic, from all charges.
+-- Clocked logic whose nets can be evaluated in an order has values of its logic, from all charges.
 abbrev pub LogicHasValues : Type 0
 LogicHasValues = (circuit : Circuit) (ground : ℕ) (kind : ℕ → NetKind) → IsClockedLogic circuit ground kind
     → (drives : List Bool) → length drives ≡ length circuit.pads
-    → (level : ℕ → ℕ) → IsLevelled circuit ground kind drives level
+    → (place : ℕ → ℕ) → IsEvaluationOrder circuit ground kind drives place
     → (q : Values) → (v : Values) × FollowsLogic circuit ground kind drives q v
 
--- Levelled clocked logic has one assignment of such values only.
+-- Clocked logic whose nets can be evaluated in an order has one assignment of such values only.
 abbrev pub LogicValuesAgree : Type 0
 LogicValuesAgree = (circuit : Circuit) (ground : ℕ) (kind : ℕ → NetKind) → IsClockedLogic circuit ground kind
     → (drives : List Bool) → length drives ≡ length circuit.pads
-    → (level : ℕ → ℕ) → IsLevelled circuit ground kind drives level
+    → (place : ℕ → ℕ) → IsEvaluationOrder circuit ground kind drives place
     → (q v w : Values) → FollowsLogic circuit ground kind drives q v → FollowsLogic circuit ground kind drives q w
     → (net : ℕ) → net < circuit.nets → v net ≡ w net

@@ -1,7 +1,7 @@
 // What a ternary level says of the values of a net.
 
 ghost use Rattle.switch_net.specs.Ternary.{SettledLevelsAreSure, RunLevelsAreSure};
-ghost use Rattle.switch_net.specs.LeastLevels.{UpdatesAreMonotone, UpdatesOnlyTell, UpdatesEnd, SettledLevelsAreLeast, AnyOrderSettles, SettledLevelsExist, SettledLevelsAreOne, ClockLevelsExist, ClocksLevelsExist, RunLevelsExist, RunLevelsAreOne};
+ghost use Rattle.switch_net.specs.LeastLevels.{UpdatesAreMonotone, UpdatesOnlyTell, UpdatesEnd, SettledLevelsAreLeast, AnyOrderSettles, SettledLevelsAlike, SettledLevelsExist, SettledLevelsAreOne, ClockLevelsExist, ClocksLevelsExist, RunLevelsExist, RunLevelsAreOne};
 ghost use Rattle.switch_net.specs.TernaryLogic.{ToldNetsSettle};
 
 /// A low or high level of a ternary settling is the value of the net in each settled assignment from charges that the
@@ -21,13 +21,14 @@ pub fn told_nets_settle()
 
 /// In the order of what levels tell an update is monotone. So updates from unknown levels on only tell more, come to their
 /// end after at most as many as there are nets, and leave the least levels that an update keeps; and nets may as well be
-/// updated one by one, in any order. It runs nothing: a caller has the laws from its contract.
+/// told one by one, in any order. It runs nothing: a caller has the laws from its contract.
 pub fn settled_levels_are_least()
     ensures monotone { UpdatesAreMonotone }
     ensures only_tell { UpdatesOnlyTell }
     ensures end { UpdatesEnd }
     ensures least { SettledLevelsAreLeast }
     ensures any_order { AnyOrderSettles }
+    ensures alike { SettledLevelsAlike }
 {}
 
 /// From all charges a ternary settling, a clock and a run exist, and the settling and the run are one on the nets of the

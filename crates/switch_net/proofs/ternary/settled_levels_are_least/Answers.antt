@@ -1,4 +1,4 @@
-use Rattle.switch_net.proofs.LeastLevels.{updates_are_monotone, updates_only_tell, updates_have_an_end, settled_levels_are_least, any_order_settles}
+use Rattle.switch_net.proofs.LeastLevels.{updates_are_monotone, updates_only_tell, updates_have_an_end, settled_levels_are_least, any_order_settles, settled_levels_alike}
 use Rattle.switch_net.proofs.ternary.settled_levels_are_least.Goals as goal
 
 -- src/ternary.rt
@@ -16,3 +16,6 @@ returns-clause-least c = settled_levels_are_least
 
 pub returns-clause-any_order : goal.returns-clause-any_order
 returns-clause-any_order c = any_order_settles
+
+pub returns-clause-alike : goal.returns-clause-alike
+returns-clause-alike c = settled_levels_alike
