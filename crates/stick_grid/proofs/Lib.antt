@@ -17,3 +17,9 @@ mod Exits
 mod PieceLinks
 mod FloodedPieces
 mod NetsOfTilings
+mod Named
+mod PieceSquares
+mod ListedRows
+mod PlanWindows
+mod PlanTilings
+mod PlanNetworks

@@ -46,7 +46,7 @@ later plan n c h = let b = h.before in record { tile = h.tile; before = omega ar
 module _ (plan : Plan) (known : IsPlan plan) (n row col : ℕ) (number : row * plan.cols + col ≡ n) (is_row : row < plan.rows) (is_col : col < plan.cols)
     (channels : List Channel) (listed : AreListed plan n channels) where
   -- A tile without a transistor adds nothing.
-  listed_same : transistor_at (plan.tile row col) ≡ None → AreListed plan (n + 1) channels
+  pub listed_same : transistor_at (plan.tile row col) ≡ None → AreListed plan (n + 1) channels
   listed_same none = record {
     each = λ c among. later plan n c (listed.each c among);
     all = λ r c t is_r is_c before has. elim (cases_eq (r * plan.cols + c) n) [
@@ -60,7 +60,7 @@ module _ (plan : Plan) (known : IsPlan plan) (n row col : ℕ) (number : row * p
   }
 
   -- A tile with a transistor adds its channel.
-  listed_more : (t : Transistor) → transistor_at (plan.tile row col) ≡ Some t → AreListed plan (n + 1) (channels ++ channel_at plan row col t ∷ [])
+  pub listed_more : (t : Transistor) → transistor_at (plan.tile row col) ≡ Some t → AreListed plan (n + 1) (channels ++ channel_at plan row col t ∷ [])
   listed_more t has =
       let here : IsOfTile plan (channel_at plan row col t) =
       record { row = row; col = col; transistor = t; is_row = is_row; is_col = is_col; has = has; channel = refl; placed = is_placed plan known row col is_row is_col t has } in

@@ -33,7 +33,7 @@ use Rattle.stick_grid.proofs.FloodedPieces.{connected, reaches}
 
 -- ---- tiles over coordinates
 
-tile_over_at : (count tile : ℕ) (at : ℤ) → tile < count → pos 0 ≤ℤ (at -ℤ pos (14 * tile)) → (at -ℤ pos (14 * tile)) <ℤ pos 14 → tile_over count at ≡ Some tile
+pub tile_over_at : (count tile : ℕ) (at : ℤ) → tile < count → pos 0 ≤ℤ (at -ℤ pos (14 * tile)) → (at -ℤ pos (14 * tile)) <ℤ pos 14 → tile_over count at ≡ Some tile
 tile_over_at count tile (pos n) few from to =
     let is : n / 14 ≡ tile = omega (arith, ints) in
     rw (is, lt-ltb tile count few) refl
@@ -43,7 +43,7 @@ below_count : (t : Bool) (n tile count : ℕ) → nat_lt n count ≡ t → cond 
 below_count true n tile count e f = let same : n ≡ tile = cc in let lt = ltb-true n count e in omega arith
 below_count false n tile count e f = cc
 
-tile_below : (count tile : ℕ) (at : ℤ) → tile_over count at ≡ Some tile → tile < count
+pub tile_below : (count tile : ℕ) (at : ℤ) → tile_over count at ≡ Some tile → tile < count
 tile_below count tile (pos n) e = below_count (nat_lt (n / 14) count) (n / 14) tile count refl e
 tile_below count tile (negsuc n) e = cc
 

@@ -1,8 +1,14 @@
+-- Definitions that public contracts cite:
 pub mod Tilings
 pub mod Joins
-pub mod Drawings
 pub mod Plans
 pub mod Pieces
 pub mod Transistors
+pub mod Names
+pub mod Devices
+pub mod Windows
+pub mod Depicted
+-- Definitions that serve private contracts alone:
+pub mod Drawings
 pub mod PieceGraph
 pub mod NetMaps

@@ -1,8 +1,12 @@
-//! What the squares of any plan of tiles stand for, of any number of rows and columns. Each law is the contract of a function
-//! that runs nothing.
+//! What plans of tiles are, of any number of rows and columns: their nets, transistors and parts, and what their squares stand for.
+//! Each law is the contract of a function that runs nothing.
 
+ghost use Rattle.stick_grid.specs.Depicted.{PlansStandForNetworks, PortsHaveSquares};
+ghost use Rattle.stick_grid.specs.Devices.{TransistorsAreChannels};
+ghost use Rattle.stick_grid.specs.Names.{NamesAreNets, PiecesHaveSquares, PlansHavePaths};
 ghost use Rattle.stick_grid.specs.Pieces.{PlansHavePieces, SquaresAreNets};
 ghost use Rattle.stick_grid.specs.Transistors.{ChannelsAreOfTiles, TransistorsArePlaced};
+ghost use Rattle.stick_grid.specs.Windows.{PlansAreTilings, SameTilesAgree, WindowsKeepPlans};
 
 /// Each conducting square of a plan is of one net of one tile. Two of them are joined exactly where the nets of their tiles are
 /// joined at the sides of neighbouring tiles, one after another.
@@ -15,4 +19,37 @@ pub fn squares_are_nets()
 pub fn channels_are_transistors()
     ensures placed { TransistorsArePlaced }
     ensures all { ChannelsAreOfTiles }
+{}
+
+/// The channel regions of a plan, listed by its transistors, row by row.
+pub fn transistors_are_channels()
+    ensures { TransistorsAreChannels }
+{}
+
+/// The nets of tiles that have squares are those that sides name, and ports have squares of their nets.
+pub fn pieces_have_squares()
+    ensures pieces { PiecesHaveSquares }
+    ensures ports { PortsHaveSquares }
+{}
+
+/// Names that meeting nets share, and that lead to one home each, tell which nets of tiles are joined.
+pub fn names_are_nets()
+    ensures paths { PlansHavePaths }
+    ensures nets { NamesAreNets }
+{}
+
+/// A part of a plan is a plan, with what meets and what is joined in it.
+pub fn windows_keep_plans()
+    ensures { WindowsKeepPlans }
+{}
+
+/// Plans with the same tiles agree in all that is said of plans, and a plan of no more than 2^20 rows and columns has a tiling.
+pub fn same_tiles_agree()
+    ensures plans { SameTilesAgree }
+    ensures tilings { PlansAreTilings }
+{}
+
+/// A plan whose nets have names, with labels on them, stands for the network with these nets, pads and devices.
+pub fn plans_stand_for_networks()
+    ensures { PlansStandForNetworks }
 {}
