@@ -10,7 +10,7 @@ use Rattle.micro_tiles.specs.declared.design.Design.{Design}
 use Rattle.micro_tiles.specs.declared.design.Design.TheVariants.{Empty}
 use Rattle.micro_tiles.specs.declared.side.Side.{Side}
 use Rattle.micro_tiles.specs.declared.side.Side.TheVariants.{North, East, South, West}
-use Rattle.micro_tiles.specs.declared.table.TheConstants.{BASIC}
+use Rattle.micro_tiles.specs.Basics.{basic_designs}
 use Rattle.micro_tiles.specs.Sides.{mirrored_side}
 use Rattle.micro_tiles.specs.Designs.{port_of, has_cut, uncut_net, side_net, transistor_of}
 use Rattle.micro_tiles.specs.Boxes.{boxes_of, mirrored_box}
@@ -41,7 +41,7 @@ back tile below = eqb-true (transpose_of (transpose_of tile)) tile (at_tile _ ti
 
 design_kept : (tile : ℕ) → tile < 55 → design_of (transpose_of tile) ≡ design_of tile
 unfolding design_of
-design_kept tile below = ap (λ n. slice_index_or BASIC n Empty) (eqb-true (basic_of (transpose_of tile)) (basic_of tile)
+design_kept tile below = ap (λ n. slice_index_or basic_designs n Empty) (eqb-true (basic_of (transpose_of tile)) (basic_of tile)
     (at_tile _ tile all_basic below))
 
 unlike_is : (a b : Bool) → unlike a b ≡ true → a ≡ not b

@@ -4,10 +4,9 @@ use Rattle.geom.specs.declared.layer.Layer.{Layer}
 use Rattle.geom.specs.declared.layer.Layer.TheVariants.{Diffusion, Poly, Metal, Cut, Implant}
 use Rattle.micro_tiles.specs.declared.side.Side.{Side}
 use Rattle.micro_tiles.specs.declared.side.Port.{Port}
-use Rattle.micro_tiles.specs.declared.tile.TheConstants.{TILES}
 use Rattle.micro_tiles.specs.Sides.{Carries}
 use Rattle.micro_tiles.specs.Strips.{IsStrip, leads_out, TilesHaveStrips, PortsLeadOut}
-use Rattle.micro_tiles.specs.Table.{design_of, boxes, port_at}
+use Rattle.micro_tiles.specs.Table.{tile_count, design_of, boxes, port_at}
 use Rattle.micro_tiles.proofs.EachSide.{each_side, at_side}
 use Rattle.micro_tiles.proofs.EachTile.{each_tile, at_tile}
 use Rattle.micro_tiles.proofs.StripTests.{strips, strip_is}
@@ -27,7 +26,7 @@ diffusion : each_tile (sides_pass Diffusion) ≡ true
 unfolding each_tile sides_pass boxes design_of
 diffusion = refl
 
-strip_of : (layer : Layer) (tile : ℕ) (side : Side) → each_tile (sides_pass layer) ≡ true → tile < TILES
+strip_of : (layer : Layer) (tile : ℕ) (side : Side) → each_tile (sides_pass layer) ≡ true → tile < tile_count
     → IsStrip (boxes tile) (port_at tile side) side layer
 unfolding sides_pass
 strip_of layer tile side all below = strip_is (boxes tile) (port_at tile side) side layer

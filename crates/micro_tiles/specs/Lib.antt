@@ -1,7 +1,8 @@
+-- Definitions that public contracts cite:
 pub mod Sides
 pub mod Designs
+pub mod Basics
 pub mod Boxes
-pub mod Slots
 pub mod Table
 pub mod Strips
 pub mod Shapes
@@ -10,3 +11,5 @@ pub mod Conducting
 pub mod Regions
 pub mod Transposes
 pub mod Examples
+-- Definitions that serve private contracts alone:
+pub mod Slots

@@ -4,12 +4,11 @@ use Rattle.geom.specs.Squares.{Covered}
 use Rattle.geom.specs.declared.layer.Layer.{Layer}
 use Rattle.geom.specs.declared.layer.Layer.TheVariants.{Poly, Metal}
 use Rattle.micro_tiles.specs.declared.side.Side.{Side}
-use Rattle.micro_tiles.specs.declared.tile.TheConstants.{TILES}
 use Rattle.micro_tiles.specs.Sides.{Carries, carries}
 use Rattle.micro_tiles.specs.Designs.{has_cut, side_net}
 use Rattle.geom.specs.Conduction.{Spot, Conducts, Joined}
 use Rattle.micro_tiles.specs.Strips.{behind_x, behind_y}
-use Rattle.micro_tiles.specs.Table.{is_transpose, design_of, boxes, port_at}
+use Rattle.micro_tiles.specs.Table.{tile_count, is_transpose, design_of, boxes, port_at}
 
 -- the number of the net that the side of the tile has in the layer, if it carries the layer
 abbrev pub named_net : ℕ → Side → Layer → Option ℕ
@@ -32,7 +31,7 @@ square_net tile layer x y = if has_cut (design_of tile) then 0 else layer_net (i
 
 -- Two conducting squares of a tile have one number exactly where conducting squares of the tile join them.
 abbrev pub NumbersAreNets : Type 0
-NumbersAreNets = (tile : ℕ) (a b : Spot) → tile < TILES → Conducts (Covered (boxes tile)) a.layer a.x a.y → Conducts (Covered (boxes tile)) b.layer b.x b.y
+NumbersAreNets = (tile : ℕ) (a b : Spot) → tile < tile_count → Conducts (Covered (boxes tile)) a.layer a.x a.y → Conducts (Covered (boxes tile)) b.layer b.x b.y
     → (square_net tile a.layer a.x a.y ≡ square_net tile b.layer b.x b.y) ↔ Joined (Covered (boxes tile)) a b
 
 -- What a port carries conducts at the border, and the number at the side is that of its net.
@@ -41,7 +40,7 @@ pub record NamesItsNet (tile : ℕ) (side : Side) (layer : Layer) : Type 0 where
   pub number : side_net (design_of tile) side layer ≡ square_net tile layer (behind_x side (pos 0) (pos 6)) (behind_y side (pos 0) (pos 6))
 
 abbrev pub PortsNameNets : Type 0
-PortsNameNets = (tile : ℕ) (side : Side) (layer : Layer) → tile < TILES → Carries (port_at tile side) layer → NamesItsNet tile side layer
+PortsNameNets = (tile : ℕ) (side : Side) (layer : Layer) → tile < tile_count → Carries (port_at tile side) layer → NamesItsNet tile side layer
 
 -- A side carries the layer, on the net that the square has in it.
 pub record ReachesSide (tile : ℕ) (layer : Layer) (x y : ℤ) : Type 0 where
@@ -51,4 +50,4 @@ pub record ReachesSide (tile : ℕ) (layer : Layer) (x y : ℤ) : Type 0 where
 
 -- Every net of a tile reaches a side, in each layer that it has.
 abbrev pub NetsReachSides : Type 0
-NetsReachSides = (tile : ℕ) (layer : Layer) (x y : ℤ) → tile < TILES → Conducts (Covered (boxes tile)) layer x y → ReachesSide tile layer x y
+NetsReachSides = (tile : ℕ) (layer : Layer) (x y : ℤ) → tile < tile_count → Conducts (Covered (boxes tile)) layer x y → ReachesSide tile layer x y

@@ -7,11 +7,10 @@ use Rattle.micro_tiles.specs.declared.side.Side.TheVariants.{North, East, South,
 use Rattle.micro_tiles.specs.declared.device.Mode.{Mode}
 use Rattle.micro_tiles.specs.declared.device.Mode.TheVariants.{Enhancement, Depletion}
 use Rattle.micro_tiles.specs.declared.device.Transistor.{Transistor}
-use Rattle.micro_tiles.specs.declared.tile.TheConstants.{TILES}
 use Rattle.geom.specs.Conduction.{IsChannel, Conducts}
 use Rattle.micro_tiles.specs.Boxes.{box}
 use Rattle.micro_tiles.specs.Nets.{square_net}
-use Rattle.micro_tiles.specs.Table.{is_transpose, boxes, transistor_at}
+use Rattle.micro_tiles.specs.Table.{tile_count, is_transpose, boxes, transistor_at}
 
 -- the next lines of squares along a side of a rectangle, as long as the side
 abbrev pub beside : BoxShape → Side → ℤ → BoxShape
@@ -86,10 +85,10 @@ pub record IsTransistor (tile : ℕ) (transistor : Transistor) (r : BoxShape) : 
   pub bare : (side : Side) (x y : ℤ) → IsFalse (is_end (is_transpose tile) side) → Inside (beside r side (pos 2)) x y → Covered (boxes tile) Diffusion x y → ⊥
 
 abbrev pub TransistorsAreWhole : Type 0
-TransistorsAreWhole = (tile : ℕ) (transistor : Transistor) → tile < TILES → transistor_at tile ≡ Some transistor
+TransistorsAreWhole = (tile : ℕ) (transistor : Transistor) → tile < tile_count → transistor_at tile ≡ Some transistor
     → IsTransistor tile transistor (channel_box transistor.mode (is_transpose tile))
 
 -- A tile with a channel has a transistor.
 abbrev pub ChannelsAreTransistors : Type 0
-ChannelsAreTransistors = (tile : ℕ) (x y : ℤ) → tile < TILES → IsChannel (Covered (boxes tile)) x y
+ChannelsAreTransistors = (tile : ℕ) (x y : ℤ) → tile < tile_count → IsChannel (Covered (boxes tile)) x y
     → (transistor : Transistor) × (transistor_at tile ≡ Some transistor)

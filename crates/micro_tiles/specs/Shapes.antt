@@ -5,10 +5,9 @@ use Rattle.geom.specs.declared.layer.Layer.TheVariants.{Diffusion, Poly, Metal, 
 use Rattle.geom.specs.Squares.{BoxShape, Inside, Covered}
 use Rattle.geom.specs.Rows.{Among}
 use Rattle.micro_tiles.specs.declared.device.Transistor.{Transistor}
-use Rattle.micro_tiles.specs.declared.tile.TheConstants.{TILES}
 use Rattle.micro_tiles.specs.Boxes.{box, cut, IsInTile}
 use Rattle.geom.specs.Conduction.{IsOneClass, IsChannel}
-use Rattle.micro_tiles.specs.Table.{boxes, transistor_at}
+use Rattle.micro_tiles.specs.Table.{tile_count, boxes, transistor_at}
 
 -- the least side of a box of the layer
 abbrev pub least_side : Layer → ℤ
@@ -22,7 +21,7 @@ pub record IsWide (b : BoxShape) : Type 0 where
   pub height : least_side b.layer ≤ℤ (b.y2 -ℤ b.y1)
 
 abbrev pub TilesHaveWideBoxes : Type 0
-TilesHaveWideBoxes = (tile : ℕ) (b : BoxShape) → tile < TILES → Among (boxes tile) b → IsWide b
+TilesHaveWideBoxes = (tile : ℕ) (b : BoxShape) → tile < tile_count → Among (boxes tile) b → IsWide b
 
 -- the squares of a contact: those of its cut, and one more on each side
 abbrev pub contact : BoxShape
@@ -37,7 +36,7 @@ pub record IsContact (boxes : List BoxShape) : Type 0 where
 
 -- A tile with a cut square is a contact, and has no transistor.
 abbrev pub CutsAreContacts : Type 0
-CutsAreContacts = (tile : ℕ) (x y : ℤ) → tile < TILES → Covered (boxes tile) Cut x y
+CutsAreContacts = (tile : ℕ) (x y : ℤ) → tile < tile_count → Covered (boxes tile) Cut x y
     → IsContact (boxes tile) × (transistor_at tile ≡ None)
 
 -- The square is at least so far from each border.
@@ -55,7 +54,7 @@ pub record KeepsInside (boxes : List BoxShape) : Type 0 where
   pub implant : (x y : ℤ) → Covered boxes Implant x y → IsInner (pos 1) x y
 
 abbrev pub TilesKeepInside : Type 0
-TilesKeepInside = (tile : ℕ) → tile < TILES → KeepsInside (boxes tile)
+TilesKeepInside = (tile : ℕ) → tile < tile_count → KeepsInside (boxes tile)
 
 -- In each layer, and in its channel, the tile has one shape at most.
 pub record HasOneShape (boxes : List BoxShape) : Type 0 where
@@ -63,9 +62,9 @@ pub record HasOneShape (boxes : List BoxShape) : Type 0 where
   pub channel : IsOneClass (IsChannel (Covered boxes))
 
 abbrev pub TilesHaveOneShape : Type 0
-TilesHaveOneShape = (tile : ℕ) → tile < TILES → HasOneShape (boxes tile)
+TilesHaveOneShape = (tile : ℕ) → tile < tile_count → HasOneShape (boxes tile)
 
 -- A tile with poly and diffusion has a transistor.
 abbrev pub PolyAvoidsDiffusion : Type 0
-PolyAvoidsDiffusion = (tile : ℕ) (x y u v : ℤ) → tile < TILES → Covered (boxes tile) Poly x y → Covered (boxes tile) Diffusion u v
+PolyAvoidsDiffusion = (tile : ℕ) (x y u v : ℤ) → tile < tile_count → Covered (boxes tile) Poly x y → Covered (boxes tile) Diffusion u v
     → (transistor : Transistor) × (transistor_at tile ≡ Some transistor)

@@ -3,11 +3,10 @@ use Rattle.std.specs.Prelude.{◌≡◌, ◌↔◌, ℕ, ◌<◌, ℤ, pos, ◌-
 use Rattle.geom.specs.declared.layer.Layer.{Layer}
 use Rattle.geom.specs.Squares.{Covered}
 use Rattle.micro_tiles.specs.declared.side.Side.{Side}
-use Rattle.micro_tiles.specs.declared.tile.TheConstants.{TILES}
 use Rattle.micro_tiles.specs.Sides.{mirrored_side}
 use Rattle.micro_tiles.specs.Designs.{side_net}
 use Rattle.micro_tiles.specs.Boxes.{mirrored_box}
-use Rattle.micro_tiles.specs.Table.{transpose_of, design_of, boxes, port_at, transistor_at}
+use Rattle.micro_tiles.specs.Table.{tile_count, transpose_of, design_of, boxes, port_at, transistor_at}
 
 -- The transpose has the boxes, squares, ports, nets and transistor of the tile, each where the mirror takes it.
 pub record IsMirrored (tile : ℕ) : Type 0 where
@@ -19,4 +18,4 @@ pub record IsMirrored (tile : ℕ) : Type 0 where
   pub transistor : transistor_at (transpose_of tile) ≡ transistor_at tile
 
 abbrev pub TransposesAreMirrored : Type 0
-TransposesAreMirrored = (tile : ℕ) → tile < TILES → IsMirrored tile
+TransposesAreMirrored = (tile : ℕ) → tile < tile_count → IsMirrored tile

@@ -1,11 +1,17 @@
 //! Facts of every tile of the table, from which all rules between neighbouring tiles follow. Each is the contract of a
 //! function that runs nothing.
 
+ghost use Rattle.micro_tiles.specs.Basics.{BasicTilesAreNamed};
 ghost use Rattle.micro_tiles.specs.Strips.{TilesHaveStrips, PortsLeadOut};
 ghost use Rattle.micro_tiles.specs.Shapes.{TilesHaveWideBoxes, CutsAreContacts, TilesKeepInside, TilesHaveOneShape, PolyAvoidsDiffusion};
 ghost use Rattle.micro_tiles.specs.Regions.{TransistorsAreWhole, ChannelsAreTransistors};
 ghost use Rattle.micro_tiles.specs.Nets.{NumbersAreNets, PortsNameNets, NetsReachSides};
 ghost use Rattle.micro_tiles.specs.Transposes.{TransposesAreMirrored};
+
+/// The names of the basic tiles are those of their designs in the table.
+pub fn basic_tiles_are_named()
+    ensures { BasicTilesAreNamed }
+{}
 
 /// Behind each side a layer has straight strips, exactly where the port of the side carries the layer, and nothing else.
 pub fn tiles_have_strips()

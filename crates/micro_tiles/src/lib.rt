@@ -1,6 +1,7 @@
 //! The tiles that layouts are made of, 14 lambda wide and high: their boxes, what their sides carry, and their nets.
 #![tactic(auto)]
 
+pub mod basic;
 pub mod boxes;
 pub mod conducting;
 pub mod design;
@@ -13,6 +14,7 @@ pub mod side;
 pub mod table;
 pub mod tile;
 
+pub use basic::Basic;
 pub use boxes::{TILE_SIDE, box_at, box_count};
 pub use conducting::conducts;
 pub use design::{Arms, Design};

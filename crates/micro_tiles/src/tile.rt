@@ -3,7 +3,7 @@
 ghost use Rattle.std.specs.Prelude.{◌≡◌, ◌<◌, ◌↔◌, IsSome, IfSome};
 ghost use Rattle.micro_tiles.specs.declared.side.Side.{Side};
 ghost use Rattle.micro_tiles.specs.Sides.{mirrored_side};
-ghost use Rattle.micro_tiles.specs.Table.{is_transpose, basic_of, design_of, transpose_of, port_at};
+ghost use Rattle.micro_tiles.specs.Table.{is_transpose, basic_of, design_of, transpose_of, port_at, tile_count};
 
 use crate::design::Design;
 use crate::table::{BASIC, BASICS};
@@ -18,13 +18,13 @@ pub struct Tile(u8);
 
 impl Model for Tile {
     ghost use Rattle.std.specs.Prelude.{ℕ, ◌<◌};
-    ghost use Rattle.micro_tiles.specs.declared.tile.TheConstants.{TILES};
+    ghost use Rattle.micro_tiles.specs.Table.{tile_count};
 
     ghost Value = { ℕ };
 
     ghost view = { λ t. t.0 };
 
-    ghost invariant = { λ t. t.0 < TILES };
+    ghost invariant = { λ t. t.0 < tile_count };
 
     ghost inverse = { λ n. record { 0 = n } };
 }
@@ -32,7 +32,7 @@ impl Model for Tile {
 impl Tile {
     /// The tile of this number, or `None` exactly where there is none.
     pub fn new(number: u8) -> Option<Tile>
-        ensures made { IsSome result ↔ (number < TILES) }
+        ensures made { IsSome result ↔ (number < tile_count) }
         ensures number { IfSome result (λ tile. tile ≡ number) }
     {
         if number < TILES {
@@ -42,10 +42,18 @@ impl Tile {
         }
     }
 
+    /// The basic tile of this number.
+    pub(crate) fn numbered(number: u8) -> Tile
+        requires { number < 28 }
+        ensures { result ≡ number }
+    {
+        Tile(number)
+    }
+
     /// Its number in the table.
     pub fn number(self) -> u8
         ensures number { result ≡ self }
-        ensures known { result < TILES }
+        ensures known { result < tile_count }
     {
         self.0
     }
@@ -60,7 +68,7 @@ impl Tile {
     /// The number of the basic tile that it is, or is the transpose of.
     fn basic(self) -> u8
         ensures number { result ≡ basic_of self }
-        ensures low { result < BASICS }
+        ensures low { result < 28 }
     {
         if self.is_transpose() {
             self.0 - (BASICS - 1)
@@ -81,7 +89,7 @@ impl Tile {
 /// (13 - y, 13 - x).
 pub fn transposed(tile: Tile) -> Tile
     ensures number { result ≡ transpose_of tile }
-    ensures known { result < TILES }
+    ensures known { result < tile_count }
     ensures ports { (side : Side) → port_at result (mirrored_side side) ≡ port_at tile side }
 {
     Tile(transposed_number(tile.0))
@@ -89,9 +97,9 @@ pub fn transposed(tile: Tile) -> Tile
 
 /// The number of the transpose of the tile of this number.
 fn transposed_number(number: u8) -> u8
-    requires { number < TILES }
+    requires { number < tile_count }
     ensures number { result ≡ transpose_of number }
-    ensures low { result < TILES }
+    ensures low { result < tile_count }
 {
     if number == 0 {
         number

@@ -3,7 +3,7 @@ use Rattle.std.proofs.Common.{◌≡◌, ℕ, ◌+◌, ◌-◌, ◌*◌, ◌<◌
 use Rattle.std.proofs.lemmas.List.{length-append, get_or_append_left, get_or-append-add}
 use Rattle.std.proofs.lemmas.Nat.{mul-add-lt}
 use Rattle.std.proofs.lemmas.Bool.{cases_lt, cases_eq}
-use Rattle.micro_tiles.specs.declared.tile.TheConstants.{TILES}
+use Rattle.micro_tiles.specs.Table.{tile_count}
 use Rattle.stick_grid.specs.Tilings.{Tiling, IsTiling, MeetsEast, MeetsSouth, tile_at}
 use Rattle.stick_grid.specs.Joins.{MeetsBelow, IsAbove}
 
@@ -37,7 +37,7 @@ module _ (upper lower : Tiling) (rows cols : ℕ) (tiles : List ℕ) (north : Is
       let back : upper.rows + (row - upper.rows) ≡ row = omega arith in
       subst (λ r. get_or tiles (r * cols + col) 0 ≡ tile_at lower (row - upper.rows) col) back (in_south (row - upper.rows) col is_col)
 
-  known : (row col : ℕ) → row < rows → col < cols → get_or tiles (row * cols + col) 0 < TILES
+  known : (row col : ℕ) → row < rows → col < cols → get_or tiles (row * cols + col) 0 < tile_count
   known row col is_row is_col = elim (cases_lt row upper.rows) [
     | inl inner ↦ rw (in_north row col inner is_col) (north.known row col inner (omega arith))
     | inr outer ↦ let same = meets.cols in rw (past_north row col outer is_col) (south.known (row - upper.rows) col (omega arith) (omega arith))

@@ -2,7 +2,7 @@
 use Rattle.std.proofs.Common.{◌≡◌, ℕ, ◌+◌, ◌-◌, ◌*◌, ◌<◌, ◌≤◌, List, get_or, inl, inr, true, false, nat_lt, refl, sym, ◌∙◌, subst, arith}
 use Rattle.std.proofs.lemmas.Nat.{mul-add-lt}
 use Rattle.std.proofs.lemmas.Bool.{cases_lt, cases_eq, lt-ltb, le-ltb}
-use Rattle.micro_tiles.specs.declared.tile.TheConstants.{TILES}
+use Rattle.micro_tiles.specs.Table.{tile_count}
 use Rattle.stick_grid.specs.Tilings.{Tiling, IsTiling, MeetsEast, MeetsSouth, tile_at}
 use Rattle.stick_grid.specs.Joins.{MeetsRight, IsBeside, tile_of_two}
 use Rattle.stick_grid.proofs.Filled.{IsFilled}
@@ -48,7 +48,7 @@ module _ (left right : Tiling) (rows cols n : ℕ) (tiles : List ℕ) (west : Is
       let back : left.cols + (col - left.cols) ≡ col = omega arith in
       subst (λ c. get_or tiles (row * cols + c) 0 ≡ tile_at right row (col - left.cols)) back (in_east row (col - left.cols) is_row (omega arith))
 
-  known : (row col : ℕ) → row < rows → col < cols → get_or tiles (row * cols + col) 0 < TILES
+  known : (row col : ℕ) → row < rows → col < cols → get_or tiles (row * cols + col) 0 < tile_count
   known row col is_row is_col = elim (cases_lt col left.cols) [
     | inl inner ↦ rw (in_west row col is_row inner) (west.known row col (omega arith) inner)
     | inr outer ↦ let same = meets.rows in rw (past_west row col is_row is_col outer) (east.known row (col - left.cols) (omega arith) (omega arith))

@@ -8,13 +8,12 @@ use Rattle.geom.specs.Conduction.{Drawing, IsNext, ShareSide, Spot, Conducts}
 use Rattle.geom.specs.Conduction.Joined.{here, step}
 use Rattle.micro_tiles.specs.declared.side.Side.{Side}
 use Rattle.micro_tiles.specs.declared.side.Side.TheVariants.{North, East, South, West}
-use Rattle.micro_tiles.specs.declared.tile.TheConstants.{TILES}
 use Rattle.micro_tiles.specs.Sides.{Carries}
 use Rattle.micro_tiles.specs.Designs.{side_net}
 use Rattle.micro_tiles.specs.Nets.{square_net}
 use Rattle.micro_tiles.specs.Shapes.{IsInner}
 use Rattle.micro_tiles.specs.Strips.{behind_x, behind_y, leads_out}
-use Rattle.micro_tiles.specs.Table.{boxes, design_of, port_at}
+use Rattle.micro_tiles.specs.Table.{tile_count, boxes, design_of, port_at}
 use Rattle.micro_tiles.proofs.ShapeFacts.{tiles_keep_inside}
 use Rattle.micro_tiles.proofs.StripFacts.{tiles_have_strips}
 use Rattle.micro_tiles.proofs.NetFacts.{numbers_are_nets}
@@ -62,7 +61,7 @@ outer East place i = let right = i.right in omega (arith, ints)
 outer South place i = let bottom = i.bottom in omega (arith, ints)
 outer West place i = let left = i.left in omega (arith, ints)
 
-module _ (tile : ℕ) (side : Side) (below : tile < TILES) where
+module _ (tile : ℕ) (side : Side) (below : tile < tile_count) where
   -- the square at this place of the border conducts
   abbrev At : Layer → ℤ → Type 0
   At layer place = Conducts (Covered (boxes tile)) layer (behind_x side (pos 0) place) (behind_y side (pos 0) place)

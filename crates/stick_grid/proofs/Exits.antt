@@ -6,12 +6,11 @@ use Rattle.geom.specs.declared.layer.Layer.{Layer}
 use Rattle.geom.specs.declared.layer.Layer.TheVariants.{Diffusion, Poly, Metal, Cut, Implant}
 use Rattle.micro_tiles.specs.declared.side.Side.{Side}
 use Rattle.micro_tiles.specs.declared.side.Side.TheVariants.{North, East, South, West}
-use Rattle.micro_tiles.specs.declared.tile.TheConstants.{TILES}
 use Rattle.micro_tiles.specs.Sides.{Carries, carries}
 use Rattle.micro_tiles.specs.Strips.{leads_out}
 use Rattle.micro_tiles.specs.Designs.{has_cut, terminal, uncut_net, side_net}
 use Rattle.micro_tiles.specs.Nets.{named_net}
-use Rattle.micro_tiles.specs.Table.{design_of, port_at}
+use Rattle.micro_tiles.specs.Table.{tile_count, design_of, port_at}
 use Rattle.micro_tiles.proofs.StripFacts.{ports_lead_out_is}
 use Rattle.micro_tiles.proofs.StripTests.{carries_is, is_carried}
 use Rattle.stick_grid.specs.declared.piece_graph.TheConstants.{EXITS}
@@ -110,7 +109,7 @@ pub few_names : (tile : ℕ) (side : Side) (layer : Layer) (net : ℕ) → Names
 few_names tile side layer net h = rw h.number (few_either (has_cut (design_of tile)) (uncut_net side layer) (few_uncut side layer))
 
 -- A layer that a side carries leads out.
-pub names_out : (tile : ℕ) (side : Side) (layer : Layer) (net : ℕ) → tile < TILES → Names tile side layer net → IsTrue (leads_out layer)
+pub names_out : (tile : ℕ) (side : Side) (layer : Layer) (net : ℕ) → tile < tile_count → Names tile side layer net → IsTrue (leads_out layer)
 names_out tile side layer net below h = ports_lead_out_is tile side layer below h.carried
 
 -- The empty tile names nothing.

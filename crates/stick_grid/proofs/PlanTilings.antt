@@ -3,7 +3,7 @@ use Rattle.std.proofs.Common.{◌≡◌, ℕ, zero, suc, ◌+◌, ◌*◌, ◌<�
 use Rattle.std.specs.List.{range_with_len, flat_map}
 use Rattle.std.proofs.lemmas.List.{length-append, get_or-append-add, get_or_append_left}
 use Rattle.std.proofs.lemmas.List.FromFn.{length-map-range_with_len, get_or-map-range_with_len}
-use Rattle.micro_tiles.specs.declared.tile.TheConstants.{TILES}
+use Rattle.micro_tiles.specs.Table.{tile_count}
 use Rattle.stick_grid.specs.Tilings.{Tiling, IsTiling, tile_at, MeetsEast, MeetsSouth}
 use Rattle.stick_grid.specs.Plans.{Plan, IsPlan, plan_of}
 use Rattle.stick_grid.specs.Windows.{HaveSameTiles, tiling_of, PlansAreTilings}

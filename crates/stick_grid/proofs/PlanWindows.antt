@@ -4,10 +4,9 @@ use Rattle.std.specs.List.{range_with_len, flat_map}
 use Rattle.geom.specs.declared.layer.Layer.{Layer}
 use Rattle.geom.specs.Squares.{Covered}
 use Rattle.micro_tiles.specs.declared.side.Side.TheVariants.{North, East, South, West}
-use Rattle.micro_tiles.specs.declared.tile.TheConstants.{TILES}
 use Rattle.micro_tiles.specs.Sides.{Carries}
 use Rattle.micro_tiles.specs.Designs.{side_net}
-use Rattle.micro_tiles.specs.Table.{boxes, design_of, port_at}
+use Rattle.micro_tiles.specs.Table.{tile_count, boxes, design_of, port_at}
 use Rattle.stick_grid.specs.Tilings.{MeetsEast, MeetsSouth}
 use Rattle.stick_grid.specs.Plans.{Plan, IsPlan, Covers, local_x, local_y}
 use Rattle.stick_grid.specs.Pieces.{Piece, MeetsAtEast, MeetsAtSouth, Connected}
@@ -33,7 +32,7 @@ module _ (part whole : Plan) (row col : ℕ) (w : IsWindow part whole row col) w
       let fits_rows = w.rows in
       let fits_cols = w.cols in
       record {
-        known = λ r c is_row is_col. subst (λ t. t < TILES) (sym (w.tiles r c is_row is_col)) (known.known (row + r) (col + c) (omega arith) (omega arith));
+        known = λ r c is_row is_col. subst (λ t. t < tile_count) (sym (w.tiles r c is_row is_col)) (known.known (row + r) (col + c) (omega arith) (omega arith));
         eastward = λ r c is_row is_col.
             let at = w.tiles r c is_row (omega arith) in
             let next = w.tiles r (c + 1) is_row is_col ∙ next_col (row + r) c in

@@ -3,16 +3,15 @@ use Rattle.std.proofs.Common.{◌≡◌, ℕ, ◌+◌, ◌*◌, ◌<◌, List, g
 use Rattle.std.proofs.lemmas.Nat.{mul-add-lt}
 use Rattle.micro_tiles.specs.declared.side.Side.{Side}
 use Rattle.micro_tiles.specs.declared.side.Side.TheVariants.{North, East, South, West}
-use Rattle.micro_tiles.specs.declared.tile.TheConstants.{TILES}
 use Rattle.micro_tiles.specs.Sides.{mirrored_side}
-use Rattle.micro_tiles.specs.Table.{port_at, transpose_of}
+use Rattle.micro_tiles.specs.Table.{tile_count, port_at, transpose_of}
 use Rattle.stick_grid.specs.Tilings.{Tiling, IsTiling, tile_at}
 use Rattle.stick_grid.specs.Joins.{IsTransposed}
 use Rattle.stick_grid.proofs.Filled.{IsFilled}
 
 -- a tile of the mirror image: its number, which the table has, and what its sides carry
 abbrev pub Turned : Tiling → ℕ → ℕ → ℕ → Type 0
-Turned tiling row col tile = (tile ≡ transpose_of (tile_at tiling col row)) × (tile < TILES) × ((side : Side) → port_at tile (mirrored_side side) ≡ port_at (tile_at tiling col row) side)
+Turned tiling row col tile = (tile ≡ transpose_of (tile_at tiling col row)) × (tile < tile_count) × ((side : Side) → port_at tile (mirrored_side side) ≡ port_at (tile_at tiling col row) side)
 
 module _ (tiling : Tiling) (rows cols n : ℕ) (tiles : List ℕ) (given : IsTiling tiling) (as_rows : rows ≡ tiling.cols) (as_cols : cols ≡ tiling.rows)
     (all : n ≡ tiling.rows * tiling.cols) (filled : IsFilled cols n (Turned tiling) tiles) where

@@ -3,7 +3,7 @@
 use Rattle.std.specs.Prelude.{ℕ, ◌+◌, ◌-◌, ◌*◌, ◌<◌, ℤ, pos, ◌-ℤ◌}
 use Rattle.geom.specs.declared.layer.Layer.{Layer}
 use Rattle.geom.specs.Squares.{Covered}
-use Rattle.micro_tiles.specs.declared.tile.TheConstants.{TILES}
+use Rattle.micro_tiles.specs.Table.{tile_count}
 use Rattle.micro_tiles.specs.Table.{boxes}
 use Rattle.stick_grid.specs.Tilings.{Tiling, tile_at, MeetsEast, MeetsSouth}
 
@@ -15,7 +15,7 @@ pub record Plan : Type 0 where
 
 -- All tiles are in the table, and neighbours carry the same on their common side.
 pub record IsPlan (plan : Plan) : Type 0 where
-  pub known : (row col : ℕ) → row < plan.rows → col < plan.cols → plan.tile row col < TILES
+  pub known : (row col : ℕ) → row < plan.rows → col < plan.cols → plan.tile row col < tile_count
   pub eastward : (row col : ℕ) → row < plan.rows → col + 1 < plan.cols → MeetsEast (plan.tile row col) (plan.tile row (col + 1))
   pub southward : (row col : ℕ) → row + 1 < plan.rows → col < plan.cols → MeetsSouth (plan.tile row col) (plan.tile (row + 1) col)
 

@@ -1,7 +1,7 @@
 -- Rows and columns of tiles. Row 0 is the northernmost, column 0 the westernmost.
 use Rattle.std.specs.Prelude.{◌≡◌, ℕ, ◌+◌, ◌*◌, ◌^◌, ◌<◌, ◌≤◌, List, length, get_or}
 use Rattle.micro_tiles.specs.declared.side.Side.TheVariants.{North, East, South, West}
-use Rattle.micro_tiles.specs.declared.tile.TheConstants.{TILES}
+use Rattle.micro_tiles.specs.Table.{tile_count}
 use Rattle.micro_tiles.specs.Table.{port_at}
 
 -- how many rows and columns there are, and the numbers of the tiles, row by row
@@ -30,6 +30,6 @@ pub record IsTiling (tiling : Tiling) : Type 0 where
   pub some_col : 1 ≤ tiling.cols
   pub few_cols : tiling.cols ≤ 2 ^ 20
   pub size : length tiling.tiles ≡ tiling.rows * tiling.cols
-  pub known : (row col : ℕ) → row < tiling.rows → col < tiling.cols → tile_at tiling row col < TILES
+  pub known : (row col : ℕ) → row < tiling.rows → col < tiling.cols → tile_at tiling row col < tile_count
   pub eastward : (row col : ℕ) → row < tiling.rows → col + 1 < tiling.cols → MeetsEast (tile_at tiling row col) (tile_at tiling row (col + 1))
   pub southward : (row col : ℕ) → row + 1 < tiling.rows → col < tiling.cols → MeetsSouth (tile_at tiling row col) (tile_at tiling (row + 1) col)
