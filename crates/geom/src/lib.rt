@@ -2,12 +2,14 @@
 #![tactic(auto)]
 
 pub mod chip;
+pub mod cif_code;
 pub mod layer;
 pub mod layer_box;
 pub mod merging;
 pub mod no_memory;
 pub mod orient;
 pub mod placing;
+pub mod point;
 mod reach;
 mod row_tree;
 mod span;
@@ -15,9 +17,11 @@ mod stacking;
 mod sweep;
 
 pub use chip::{Call, Chip, Kind, Label, Rect};
+pub use cif_code::CifCode;
 pub use layer::Layer;
 pub use layer_box::Box2;
 pub use merging::{merge_runs, merged_once};
 pub use no_memory::NoMemory;
 pub use orient::Orient;
 pub use placing::place;
+pub use point::Point;
