@@ -1,23 +1,28 @@
 -- The parts of a specification that was read are those that its text says.
-use Rattle.std.proofs.Common.{◌≡◌, ℕ, List, map, ap, ◌∙◌}
+use Rattle.std.proofs.Common.{◌≡◌, ℕ, List, [], map, ap, ◌∙◌}
 use Rattle.rx_lang.specs.declared.expr_node.ExprNode.{ExprNode}
 use Rattle.rx_lang.specs.Expression.{Expr}
 use Rattle.rx_lang.specs.Specification.{NamedPattern, Specification}
-use Rattle.rx_lang.specs.Tables.{tree_at, trees, specification}
+use Rattle.rx_lang.specs.Tables.{IsSpecification, tree_at, trees, specification}
 use Rattle.rx_syntax.specs.Grammar.{Syntax}
 use Rattle.rx_syntax.specs.Accepted.{Says, said, Accepted}
-use Rattle.rx_syntax.specs.NameTables.{NameTables}
+use Rattle.rx_syntax.specs.NameTables.{AreNameTables, NameTables}
+use Rattle.rx_syntax.specs.NodeTables.{AreNodes}
 use Rattle.rx_syntax.specs.NameReading.{Declares}
 
 abbrev pub of : List (List ℕ) → List NamedPattern → List (List ℕ) → List Expr → Specification
-of lines symbols outputs es = record { lines = lines; symbols = symbols; outputs = outputs; statements = es }
+of lines symbols outputs es = record { lines = lines; symbols = symbols; outputs = outputs; statements = es; scans = [] }
+
+-- the same with these scans
+abbrev with_scans : List Expr → Specification → Specification
+with_scans scans s = record s { scans = scans }
 
 pub accepted_parts : (text : List ℕ) (limit : ℕ) (names : NameTables) → (h : Declares text limit names)
-    → (lines : List (List ℕ)) (symbols : List NamedPattern) (outputs : List (List ℕ)) (nodes : List ExprNode) (roots : List ℕ)
-    → lines ≡ names.lines → symbols ≡ names.symbols → outputs ≡ names.outputs
+    → (lines : List (List ℕ)) (symbols : List NamedPattern) (outputs : List (List ℕ)) (nodes : List ExprNode) (roots scans : List ℕ)
+    → lines ≡ names.lines → symbols ≡ names.symbols → outputs ≡ names.outputs → scans ≡ []
     → ((syntax : Syntax) → Says text syntax → map (tree_at (trees nodes)) roots ≡ (said text syntax).statements)
-    → Accepted text limit (specification (record { lines = lines; symbols = symbols; outputs = outputs; nodes = nodes; exprs = roots }))
-accepted_parts text limit names h lines symbols outputs nodes roots e f g statements =
+    → Accepted text limit (specification (record { lines = lines; symbols = symbols; outputs = outputs; nodes = nodes; exprs = roots; scans = scans }))
+accepted_parts text limit names h lines symbols outputs nodes roots scans e f g none statements =
     let s = said text h.syntax in
     let ls : lines ≡ s.lines = e ∙ ap (λ (t : NameTables). t.lines) h.is in
     let ss : symbols ≡ s.symbols = f ∙ ap (λ (t : NameTables). t.symbols) h.is in
@@ -28,8 +33,33 @@ accepted_parts text limit names h lines symbols outputs nodes roots e f g statem
       syntax = h.syntax;
       says = h.says;
       no_fault = h.no_fault;
-      is = ap (λ x. of x symbols outputs statements_of) ls
+      is = ap (λ x. with_scans (map (tree_at (trees nodes)) x) (of lines symbols outputs statements_of)) none
+          ∙ ap (λ x. of x symbols outputs statements_of) ls
           ∙ ap (λ x. of s.lines x outputs statements_of) ss
           ∙ ap (λ x. of s.lines s.symbols x statements_of) os
           ∙ ap (λ x. of s.lines s.symbols s.outputs x) es;
     }
+
+-- what the declarations and the nodes keep is what a specification keeps
+pub whole_kept : (names : NameTables) → AreNameTables names → (nodes : List ExprNode) (roots : List ℕ) → AreNodes names nodes roots
+    → (lines : List (List ℕ)) (symbols : List NamedPattern) (outputs : List (List ℕ)) (scans : List ℕ)
+    → lines ≡ names.lines → symbols ≡ names.symbols → outputs ≡ names.outputs → scans ≡ []
+    → IsSpecification (record { lines = lines; symbols = symbols; outputs = outputs; nodes = nodes; exprs = roots; scans = scans })
+whole_kept names n nodes roots h lines symbols outputs scans e f g k = rw (e, f, g, k) (record {
+  some_lines = n.some_lines;
+  few_lines = n.few_lines;
+  some_symbols = n.some_symbols;
+  few_symbols = n.few_symbols;
+  some_outputs = n.some_outputs;
+  few_outputs = n.few_outputs;
+  some_statements = h.some_statements;
+  few_leaves = h.few_leaves;
+  few_nodes = h.few_nodes;
+  names_differ = n.names_differ;
+  place_per_line = n.place_per_line;
+  named_entries = h.named_entries;
+  bounds = h.bounds;
+  children_before = h.children_before;
+  roots_in_table = h.roots_in_table;
+  used_once = h.used_once;
+})

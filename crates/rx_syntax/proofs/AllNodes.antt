@@ -6,7 +6,8 @@ use Rattle.std.proofs.lemmas.List.Sums.{sum_by-append, sum_by-cons}
 use Rattle.std.proofs.lemmas.Option.{get_or_from_slice_get}
 use Rattle.rx_lang.specs.declared.expr_node.ExprNode.{ExprNode}
 use Rattle.rx_lang.specs.Expression.{Expr, symbol}
-use Rattle.rx_lang.specs.Tables.{children, is_leaf, tree_at, trees}
+use Rattle.rx_lang.specs.Tables.{children, table_occurrences, tree_at, trees}
+use Rattle.rx_lang.specs.Copies.{occurrences}
 use Rattle.rx_syntax.specs.Lexemes.{Lexeme, ended}
 use Rattle.rx_syntax.specs.Grammar.{Tree, ExprOf, Statements, one, more, Syntax, Specifies}
 use Rattle.rx_syntax.specs.Uses.{word_of}
@@ -24,7 +25,7 @@ use Rattle.rx_syntax.proofs.Derived.{specified_run}
 use Rattle.rx_syntax.proofs.BuiltSyntax.{syntax_built}
 use Rattle.rx_syntax.proofs.OneAnswer.{tokens_unique}
 use Rattle.rx_syntax.proofs.OneSpecification.{says_one}
-use Rattle.rx_syntax.proofs.Growth.{Entry, leaves, Mean, Growth, grown_mean, grown_uses, grown_before, grown_named, grown_leaves, taken_held, below_mean, length-trees}
+use Rattle.rx_syntax.proofs.Growth.{Entry, leaves, Mean, Growth, grown_mean, grown_uses, grown_before, grown_named, grown_bounds, counted_leaves, taken_held, below_mean, length-trees}
 use Rattle.rx_syntax.proofs.OpenGroups.{numbered}
 use Rattle.rx_syntax.proofs.NodesLaid.{Counted, OpenAs, closed}
 use Rattle.rx_syntax.proofs.Faultless.{few_symbols}
@@ -37,15 +38,6 @@ some_exprs xs found (more {ys = ys} {some = some} {others = others} whole holds 
     subst (λ es. 1 ≤ length es) (sym holds) (omega (arith, some_exprs ys some before, length-append some others))
 
 -- entries as trees and as numbers
-
-leaves_of_trees : (es : List Entry) → sum_by (λ (e : Entry). leaves e.tree) es ≡ sum_by leaves (map (λ (e : Entry). e.tree) es)
-leaves_of_trees [] = refl
-leaves_of_trees (e ∷ es) = omega (
-  arith,
-  sum_by-cons (λ (e : Entry). leaves e.tree) e es,
-  sum_by-cons leaves e.tree (map (λ (e : Entry). e.tree) es),
-  leaves_of_trees es,
-)
 
 trees_of_entries : (made : List Expr) (es : List Entry) → Mean made es
     → map (tree_at made) (map (λ (e : Entry). e.number) es) ≡ map (λ (e : Entry). e.tree) es
@@ -94,8 +86,9 @@ module _ (text : List ℕ) (limit : ℕ) (tables : NameTables) (declares : Decla
         let size : length roots ≡ length exprs =
         ap length h.roots_are ∙ length-map h.entries (λ (e : Entry). e.number) ∙ sym (length-map h.entries (λ (e : Entry). e.tree))
         ∙ ap length (sym h.statements) ∙ length-map exprs (numbered tables.symbols tables.outputs text) in
-        let count : count_by is_leaf nodes ≡ sum_by leaves (map (numbered tables.symbols tables.outputs text) exprs) =
-        grown_leaves h.growth ∙ leaves_of_trees h.entries ∙ ap (sum_by leaves) (sym h.statements) in
+        let count : length (table_occurrences (with_nodes tables nodes roots)) ≡ sum_by leaves (map (numbered tables.symbols tables.outputs text) exprs) =
+        ap (λ rs. length (flat_map (λ root. occurrences (tree_at (trees nodes) root)) rs)) (append-nil roots) ∙ counted_leaves (trees nodes) roots
+        ∙ ap (sum_by leaves) (ap (map (tree_at (trees nodes))) h.roots_are ∙ trees_of_entries (trees nodes) h.entries (grown_mean h.growth) ∙ sym h.statements) in
         let below : All (λ n. n < length nodes) numbers =
         subst (λ m. All (λ n. n < m) numbers) (length-trees nodes) (below_mean (trees nodes) h.entries (grown_mean h.growth)) in
         record {
@@ -103,9 +96,11 @@ module _ (text : List ℕ) (limit : ℕ) (tables : NameTables) (declares : Decla
           few_leaves = omega (arith, count, low, few_symbols text limit (number_in (names_of tables.symbols)) (number_in tables.outputs) declares.syntax declares.no_fault);
           few_nodes = few;
           named_entries = grown_named h.growth (with_nodes tables nodes roots) refl refl;
+          bounds = grown_bounds h.growth;
           children_before = grown_before h.growth;
-          roots_in_table = subst (λ rs. All (λ n. n < length nodes) rs) (sym h.roots_are) below;
-          used_once = λ k lt. sum_by-append (λ x. cond (x == k) 1 0) (flat_map children nodes) roots
+          roots_in_table = subst (λ rs. All (λ n. n < length nodes) rs) (sym h.roots_are ∙ sym (append-nil roots)) below;
+          used_once = λ k lt. sum_by-append (λ x. cond (x == k) 1 0) (flat_map children nodes) (roots ++ [])
+              ∙ ap (λ rs. count_by (λ x. x == k) (flat_map children nodes) + count_by (λ x. x == k) rs) (append-nil roots)
               ∙ ap (λ n. count_by (λ x. x == k) (flat_map children nodes) + n) (ap (count_by (λ x. x == k)) h.roots_are ∙ taken_held k h.entries)
               ∙ (grown_uses h.growth k).once lt;
         }

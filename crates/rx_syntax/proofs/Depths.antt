@@ -7,9 +7,10 @@ use Rattle.rx_lang.specs.Expression.{Expr}
 use Rattle.rx_syntax.specs.Lexemes.{Lexeme}
 use Rattle.rx_syntax.specs.Grammar.{Tree, Level, unions, sequences, parts, Derives, named, closed, starred, repeated, optioned, noted, alone, followed, single, either}
 use Rattle.rx_syntax.specs.Accepted.{resolve}
+use Rattle.rx_syntax.specs.Printed.{bounds_text}
 use Rattle.rx_syntax.specs.Refusals.{opened, open_after, Clean, none, next}
 use Rattle.rx_syntax.specs.declared.kind.Kind.{Kind}
-use Rattle.rx_syntax.specs.declared.kind.Kind.TheVariants.{Name, Bar, Star, Plus, Question, Mark, Open, Close}
+use Rattle.rx_syntax.specs.declared.kind.Kind.TheVariants.{Bad, Name, Bar, Star, Plus, Question, Mark, Open, Close}
 use Rattle.rx_syntax.specs.declared.spec_code.SpecCode.TheVariants.{S14}
 use Rattle.rx_syntax.proofs.Bits.{Bit, blank, piece, bits_text, tokens_of, tokens_append}
 use Rattle.rx_syntax.proofs.PrintedExprs.{natural, needs, enclosed_bits, expr_bits}
@@ -45,6 +46,7 @@ depth (lang.star f) = held (needs parts (natural f)) (depth f)
 depth (lang.plus f) = held (needs parts (natural f)) (depth f)
 depth (lang.optional f) = held (needs parts (natural f)) (depth f)
 depth (lang.marked f y) = held (needs parts (natural f)) (depth f)
+depth (lang.repeated f m n) = held (needs parts (natural f)) (depth f)
 
 held_most : (b : Bool) (n : ℕ) → held b n ≤ suc n
 held_most false n = omega arith
@@ -222,3 +224,4 @@ module _ (symbols outputs : List (List ℕ)) where
       flat_sign f (blank 32 ∷ piece Mark (33 ∷ []) ∷ name) (expr_flat f)
       (flat_blank 32 (piece Mark (33 ∷ []) ∷ name) 0 (flat_piece Mark (33 ∷ []) name 0 (λ d. refl)
       (flat_piece Name (slice_index_or outputs y []) [] 0 (λ d. refl) (flat_none 0))))
+  expr_flat (lang.repeated f m n) = flat_sign f (piece Bad (bounds_text m n) ∷ []) (expr_flat f) (flat_piece Bad (bounds_text m n) [] 0 (λ d. refl) (flat_none 0))

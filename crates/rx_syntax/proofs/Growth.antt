@@ -1,5 +1,5 @@
 -- Tables of nodes that grow by a node at a time, and the expressions in them that no later node has taken yet.
-use Rattle.std.proofs.Common.{◌≡◌, ℕ, ◌+◌, ◌<◌, ◌≤◌, ◌==◌, Some, List, [], ◌∷◌, ◌++◌, length, map, slice_get, get_or, All, count_by, sum_by, flat_map, cond, fold, refl, ap, sym, ◌∙◌, subst, inl, inr, arith, length-append}
+use Rattle.std.proofs.Common.{◌≡◌, ℕ, zero, suc, ◌*◌, ◌+◌, ◌<◌, ◌≤◌, ◌==◌, Some, List, [], ◌∷◌, ◌++◌, length, map, slice_get, get_or, All, count_by, sum_by, flat_map, cond, fold, refl, ap, sym, ◌∙◌, subst, inl, inr, arith, length-append}
 use Rattle.std.specs.Prelude.{⊤}
 use Rattle.std.proofs.lemmas.Bool.{cases_lt, cases_order}
 use Rattle.std.proofs.lemmas.List.{append-nil, get_or_append_left}
@@ -9,9 +9,10 @@ use Rattle.std.proofs.lemmas.Grind.{flat_map-append}
 use Rattle.std.proofs.lemmas.Option.{slice_get_within, slice_get_read, get_or_from_slice_get}
 use Rattle.std.proofs.Math.Seq.{get_or-append_seam}
 use Rattle.rx_lang.specs.declared.expr_node.ExprNode.{ExprNode}
-use Rattle.rx_lang.specs.Expression.{Expr, symbol, sequence, union, star, plus, optional, marked}
+use Rattle.rx_lang.specs.Expression.{Expr, symbol, sequence, union, star, plus, optional, marked, repeated}
 use Rattle.rx_lang.specs.Specification.{NamedPattern}
-use Rattle.rx_lang.specs.Tables.{Tables, children, is_leaf, NamesEntries, tree_of, trees}
+use Rattle.rx_lang.specs.Tables.{Tables, HasBounds, children, NamesEntries, tree_at, tree_of, trees}
+use Rattle.rx_lang.specs.Copies.{occurrences, times}
 
 -- an expression in a table: the number of its node, and its tree
 pub record Entry : Type 0 where
@@ -27,6 +28,7 @@ leaves (star e) = leaves e
 leaves (plus e) = leaves e
 leaves (optional e) = leaves e
 leaves (marked e y) = leaves e
+leaves (repeated e m n) = n * leaves e
 
 -- The nodes with these trees have the trees of the entries.
 abbrev pub Mean : List Expr → List Entry → Type 0
@@ -46,7 +48,7 @@ module _ (symbols : List NamedPattern) (outputs : List (List ℕ)) where
   pub record Makes (node : ExprNode) (taken : List Entry) (tree : Expr) : Type 0 where
     pub takes : children node ≡ map (λ (e : Entry). e.number) taken
     pub makes : (made : List Expr) → Mean made taken → tree_of made node ≡ tree
-    pub counts : leaves tree ≡ cond (is_leaf node) 1 0 + sum_by (λ (e : Entry). leaves e.tree) taken
+    pub bounds : HasBounds node
     pub named : (tables : Tables) → tables.symbols ≡ symbols → tables.outputs ≡ outputs → NamesEntries tables node
 
   -- The table grew so, and these are the entries that are open in it.
@@ -90,7 +92,7 @@ below_mean made [] h = All-nil (λ n. n < length made)
 below_mean made (x ∷ es) (get, h) =
     All-cons (λ n. n < length made) x.number (map (λ (e : Entry). e.number) es) (slice_get_within made x.number x.tree get) (below_mean made es h)
 
-trees_more : (nodes : List ExprNode) (node : ExprNode) → trees (nodes ++ (node ∷ [])) ≡ trees nodes ++ (tree_of (trees nodes) node ∷ [])
+pub trees_more : (nodes : List ExprNode) (node : ExprNode) → trees (nodes ++ (node ∷ [])) ≡ trees nodes ++ (tree_of (trees nodes) node ∷ [])
 trees_more nodes node = fold-append (λ made n. made ++ (tree_of made n ∷ [])) [] nodes (node ∷ [])
 
 length-grown : (before : List Expr) (nodes : List ExprNode)
@@ -236,22 +238,38 @@ module _ {symbols : List NamedPattern} {outputs : List (List ℕ)} where
       (All-append (NamesEntries tables) nodes (node ∷ []) (grown_named g tables s o)
       (All-cons (NamesEntries tables) node [] (makes.named tables s o) (All-nil (NamesEntries tables))))
 
-  pub grown_leaves : {nodes : List ExprNode} {es : List Entry} → Growth symbols outputs nodes es
-      → count_by is_leaf nodes ≡ sum_by (λ (e : Entry). leaves e.tree) es
-  grown_leaves nothing = refl
-  grown_leaves (grown {nodes = nodes} {more = more} {before = before} {opens = opens} node xs taken ys tree makes cut longer open_now g) =
-      let new : Entry = record { number = length nodes; tree = tree } in
-      let count : List Entry → ℕ = sum_by (λ (e : Entry). leaves e.tree) in
-      let old : count_by is_leaf nodes ≡ count (xs ++ (taken ++ ys)) = grown_leaves g ∙ ap count cut in
-      let sums : count_by is_leaf (nodes ++ (node ∷ [])) ≡ count (xs ++ (new ∷ ys)) = omega (
-        arith,
-        old,
-        makes.counts,
-        sum_by-append (λ n. cond (is_leaf n) 1 0) nodes (node ∷ []),
-        sum_by-cons (λ n. cond (is_leaf n) 1 0) node [],
-        sum_by-append (λ (e : Entry). leaves e.tree) xs (taken ++ ys),
-        sum_by-append (λ (e : Entry). leaves e.tree) taken ys,
-        sum_by-append (λ (e : Entry). leaves e.tree) xs (new ∷ ys),
-        sum_by-cons (λ (e : Entry). leaves e.tree) new ys,
-      ) in
-      ap (count_by is_leaf) longer ∙ sums ∙ ap count (sym open_now)
+  pub grown_bounds : {nodes : List ExprNode} {es : List Entry} → Growth symbols outputs nodes es → All HasBounds nodes
+  grown_bounds nothing = All-nil HasBounds
+  grown_bounds (grown {nodes = nodes} {before = before} node xs taken ys tree makes cut longer open_now g) =
+      subst (λ ns. All HasBounds ns) (sym longer)
+      (All-append HasBounds nodes (node ∷ []) (grown_bounds g) (All-cons HasBounds node [] makes.bounds (All-nil HasBounds)))
+
+length_times : (n : ℕ) (xs : List ℕ) → length (times n xs) ≡ n * length xs
+length_times zero xs = omega arith
+length_times (suc n) xs = length-append xs (times n xs) ∙ ap (λ k. length xs + k) (length_times n xs) ∙ nonlinear n (length xs)
+  where
+    nonlinear : (n k : ℕ) → k + n * k ≡ suc n * k
+    nonlinear n k = omega arith
+
+-- the number of occurrences, copies counted
+pub occurrences_leaves : (e : Expr) → length (occurrences e) ≡ leaves e
+occurrences_leaves (symbol s) = refl
+occurrences_leaves (sequence e f) = omega (arith, length-append (occurrences e) (occurrences f), occurrences_leaves e, occurrences_leaves f)
+occurrences_leaves (union e f) = omega (arith, length-append (occurrences e) (occurrences f), occurrences_leaves e, occurrences_leaves f)
+occurrences_leaves (star e) = occurrences_leaves e
+occurrences_leaves (plus e) = occurrences_leaves e
+occurrences_leaves (optional e) = occurrences_leaves e
+occurrences_leaves (marked e y) = occurrences_leaves e
+occurrences_leaves (repeated e m n) = length_times n (occurrences e) ∙ ap (λ k. n * k) (occurrences_leaves e)
+
+-- the number of occurrences in the trees of these numbers
+pub counted_leaves : (made : List Expr) (roots : List ℕ)
+    → length (flat_map (λ root. occurrences (tree_at made root)) roots) ≡ sum_by leaves (map (tree_at made) roots)
+counted_leaves made [] = refl
+counted_leaves made (root ∷ roots) = omega (
+  arith,
+  length-append (occurrences (tree_at made root)) (flat_map (λ root. occurrences (tree_at made root)) roots),
+  occurrences_leaves (tree_at made root),
+  counted_leaves made roots,
+  sum_by-cons leaves (tree_at made root) (map (tree_at made) roots),
+)

@@ -44,3 +44,5 @@ pub mod SoundTables
 pub mod NamesFollowed
 pub mod NameTokens
 pub mod DeclaredNames
+pub mod Roots
+pub mod RepeatTests

@@ -57,7 +57,7 @@ module _ (symbols : List NamedPattern) (outputs : List (List ℕ)) (text : List 
   leaf_makes s lt = record {
     takes = refl;
     makes = λ made h. refl;
-    counts = refl;
+    bounds = tt;
     named = λ tables es eo. subst (λ ss. s < length ss) (sym es) lt;
   }
 
@@ -67,14 +67,14 @@ module _ (symbols : List NamedPattern) (outputs : List (List ℕ)) (text : List 
     takes = refl;
     makes = λ made h. ap (λ x. lang.sequence x (tree_at made b)) (get_or_from_slice_get made a (numbered e) (lang.symbol 0) h.0)
         ∙ ap (λ y. lang.sequence (numbered e) y) (get_or_from_slice_get made b (numbered f) (lang.symbol 0) h.1.0);
-    counts = omega arith;
+    bounds = tt;
     named = λ tables es eo. tt;
   }
   join_makes Union a b e f = record {
     takes = refl;
     makes = λ made h. ap (λ x. lang.union x (tree_at made b)) (get_or_from_slice_get made a (numbered e) (lang.symbol 0) h.0)
         ∙ ap (λ y. lang.union (numbered e) y) (get_or_from_slice_get made b (numbered f) (lang.symbol 0) h.1.0);
-    counts = omega arith;
+    bounds = tt;
     named = λ tables es eo. tt;
   }
 
@@ -86,7 +86,7 @@ module _ (symbols : List NamedPattern) (outputs : List (List ℕ)) (text : List 
   star_makes n e = record {
     takes = refl;
     makes = λ made h. ap lang.star (get_or_from_slice_get made n (numbered e) (lang.symbol 0) h.0);
-    counts = omega arith;
+    bounds = tt;
     named = λ tables es eo. tt;
   }
 
@@ -94,7 +94,7 @@ module _ (symbols : List NamedPattern) (outputs : List (List ℕ)) (text : List 
   plus_makes n e = record {
     takes = refl;
     makes = λ made h. ap lang.plus (get_or_from_slice_get made n (numbered e) (lang.symbol 0) h.0);
-    counts = omega arith;
+    bounds = tt;
     named = λ tables es eo. tt;
   }
 
@@ -102,7 +102,7 @@ module _ (symbols : List NamedPattern) (outputs : List (List ℕ)) (text : List 
   optional_makes n e = record {
     takes = refl;
     makes = λ made h. ap lang.optional (get_or_from_slice_get made n (numbered e) (lang.symbol 0) h.0);
-    counts = omega arith;
+    bounds = tt;
     named = λ tables es eo. tt;
   }
 
@@ -111,7 +111,7 @@ module _ (symbols : List NamedPattern) (outputs : List (List ℕ)) (text : List 
   mark_makes t lt n e = record {
     takes = refl;
     makes = λ made h. ap (λ x. lang.marked x (number_in outputs (word_of text t))) (get_or_from_slice_get made n (numbered e) (lang.symbol 0) h.0);
-    counts = omega arith;
+    bounds = tt;
     named = λ tables es eo. subst (λ os. number_in outputs (word_of text t) < length os) (sym eo) lt;
   }
 

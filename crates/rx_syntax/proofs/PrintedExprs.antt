@@ -6,8 +6,8 @@ use Rattle.rx_text.specs.Name.{is_name_byte}
 use Rattle.rx_lang.specs.Expression as lang
 use Rattle.rx_lang.specs.Expression.{Expr}
 use Rattle.rx_syntax.specs.Grammar.{Level, unions, sequences, parts}
-use Rattle.rx_syntax.specs.Printed.{is_union, is_compound, enclosed, expr_text}
-use Rattle.rx_syntax.specs.declared.kind.Kind.TheVariants.{Name, Bar, Star, Plus, Question, Mark, Open, Close}
+use Rattle.rx_syntax.specs.Printed.{is_union, is_compound, bounds_text, enclosed, expr_text}
+use Rattle.rx_syntax.specs.declared.kind.Kind.TheVariants.{Bad, Name, Bar, Star, Plus, Question, Mark, Open, Close}
 use Rattle.rx_syntax.proofs.Bits.{Bit, blank, piece, bits_text, AllFit, bits_append, fit_append, IsPlainName, name_fits}
 use Rattle.rx_syntax.proofs.Runs.{StopsAt}
 
@@ -20,6 +20,7 @@ natural (lang.star f) = parts
 natural (lang.plus f) = parts
 natural (lang.optional f) = parts
 natural (lang.marked f y) = parts
+natural (lang.repeated f m n) = parts
 
 -- where this level is due, an expression of that one stands in parentheses
 abbrev pub needs : Level → Level → Bool
@@ -52,6 +53,7 @@ module _ (symbols outputs : List (List ℕ)) where
   expr_bits (lang.marked f y) =
       enclosed_bits (needs parts (natural f)) (expr_bits f)
       ++ (blank 32 ∷ piece Mark (33 ∷ []) ∷ piece Name (slice_index_or outputs y []) ∷ [])
+  expr_bits (lang.repeated f m n) = enclosed_bits (needs parts (natural f)) (expr_bits f) ++ (piece Bad (bounds_text m n) ∷ [])
 
   -- the text
 
@@ -63,6 +65,7 @@ module _ (symbols outputs : List (List ℕ)) where
   union_needs (lang.plus f) = refl
   union_needs (lang.optional f) = refl
   union_needs (lang.marked f y) = refl
+  union_needs (lang.repeated f m n) = refl
 
   compound_needs : (e : Expr) → needs parts (natural e) ≡ is_compound e
   compound_needs (lang.symbol s) = refl
@@ -72,6 +75,7 @@ module _ (symbols outputs : List (List ℕ)) where
   compound_needs (lang.plus f) = refl
   compound_needs (lang.optional f) = refl
   compound_needs (lang.marked f y) = refl
+  compound_needs (lang.repeated f m n) = refl
 
   enclosed_text : (b c : Bool) (xs : List Bit) (t : List ℕ) → b ≡ c → bits_text xs ≡ t → bits_text (enclosed_bits b xs) ≡ enclosed c t
   enclosed_text b c xs t same e = ap (λ b. bits_text (enclosed_bits b xs)) same ∙ by_test c
@@ -108,6 +112,9 @@ module _ (symbols outputs : List (List ℕ)) where
       let name = slice_index_or outputs y [] in
       sign_text f (blank 32 ∷ piece Mark (33 ∷ []) ∷ piece Name name ∷ []) (expr_bits_text f)
       ∙ ap (λ t. enclosed (is_compound f) (expr_text symbols outputs f) ++ (32 ∷ 33 ∷ t)) (append-nil name)
+  expr_bits_text (lang.repeated f m n) =
+      sign_text f (piece Bad (bounds_text m n) ∷ []) (expr_bits_text f)
+      ∙ ap (λ t. enclosed (is_compound f) (expr_text symbols outputs f) ++ t) (append-nil (bounds_text m n))
 
   -- the tokens are read as themselves
 
@@ -126,6 +133,7 @@ module _ (symbols outputs : List (List ℕ)) where
   Proper (lang.plus f) = Proper f
   Proper (lang.optional f) = Proper f
   Proper (lang.marked f y) = Proper f × (y < length outputs)
+  Proper (lang.repeated f m n) = ⊥
 
   module _ (plain_symbols : ArePlain symbols) (plain_outputs : ArePlain outputs) where
     pub expr_fits : (e : Expr) → Proper e → (rest : List ℕ) → StopsAt is_name_byte rest → AllFit (expr_bits e) rest
@@ -153,3 +161,4 @@ module _ (symbols outputs : List (List ℕ)) where
         fit_append (enclosed_bits (needs parts (natural f)) (expr_bits f)) (blank 32 ∷ piece Mark (33 ∷ []) ∷ piece Name name ∷ []) rest
         (enclosed_fit (needs parts (natural f)) (expr_bits f) (32 ∷ 33 ∷ ((name ++ []) ++ rest)) (expr_fits f h) refl)
         ((refl, refl), ((refl, refl, omega arith), (name_fits name rest (plain_outputs y i) stops, tt)))
+    expr_fits (lang.repeated f m n) h rest stops = absurd h

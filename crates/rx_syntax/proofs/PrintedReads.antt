@@ -72,7 +72,7 @@ module _ (spec : Specification) (h : IsPrintable spec) where
       let ss = flat_map symbol_bits spec.symbols in
       let os = names_bits kinds.Output (codes "output") spec.outputs in
       let es = flat_map bits spec.statements in
-      let all : StandAt (printed spec) 0 (ls ++ (ss ++ (os ++ es))) [] = sym (spec_text spec) ∙ sym (append-nil (bits_text (spec_bits spec))) in
+      let all : StandAt (printed spec) 0 (ls ++ (ss ++ (os ++ es))) [] = sym (spec_text spec h.old h.no_scans) ∙ sym (append-nil (bits_text (spec_bits spec))) in
       let at1 = 0 + length (bits_text ls) in
       let at2 = at1 + length (bits_text ss) in
       let at3 = at2 + length (bits_text os) in

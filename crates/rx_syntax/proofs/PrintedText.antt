@@ -1,5 +1,5 @@
 -- The text of a printed specification is read back as that specification.
-use Rattle.std.proofs.Common.{◌≡◌, ℕ, zero, suc, Some, slice_get, ◌<◌, ◌≤◌, true, List, [], ◌∷◌, ◌++◌, length, map, flat_map, codes, refl, ap, sym, ◌∙◌, subst, arith}
+use Rattle.std.proofs.Common.{◌≡◌, ℕ, zero, suc, Some, slice_get, ◌<◌, ◌≤◌, true, false, List, [], ◌∷◌, ◌++◌, length, map, flat_map, codes, refl, ap, sym, ◌∙◌, subst, arith}
 use Rattle.std.specs.Prelude.{slice_index_or, ⊤, ◌≢◌}
 use Rattle.std.specs.List.{list_all, prefix_len}
 use Rattle.std.proofs.Math.Numerals.{one-add}
@@ -12,7 +12,7 @@ use Rattle.rx_lang.specs.Specification.{NamedPattern, Specification}
 use Rattle.rx_syntax.specs.Tokens.{place_byte, is_place_byte}
 use Rattle.rx_syntax.specs.Lexemes.{LexemesFrom}
 use Rattle.rx_syntax.specs.Accepted.{number_in}
-use Rattle.rx_syntax.specs.Printed.{statement_text, names_text, symbol_text, printed}
+use Rattle.rx_syntax.specs.Printed.{needs_version_2, statement_text, names_text, symbol_text, printed}
 use Rattle.rx_syntax.specs.declared.kind.Kind.{Kind}
 use Rattle.rx_syntax.specs.declared.kind.Kind.TheVariants as kinds
 use Rattle.rx_syntax.proofs.Bits.{Bit, blank, piece, bits_text, tokens_of, Fits, AllFit, bits_append, fit_append, lexed, run_length, IsPlainName, name_fits}
@@ -45,12 +45,12 @@ flat_text of text each [] = refl
 flat_text of text each (x ∷ xs) =
     bits_append (of x) (flat_map of xs) ∙ ap (λ t. t ++ bits_text (flat_map of xs)) (each x) ∙ ap (λ t. text x ++ t) (flat_text of text each xs)
 
-statement_bits_text : (symbols outputs : List (List ℕ)) (e : Expr) → bits_text (statement_bits symbols outputs e) ≡ statement_text symbols outputs e
+statement_bits_text : (symbols outputs : List (List ℕ)) (e : Expr) → bits_text (statement_bits symbols outputs e) ≡ statement_text symbols outputs (codes "expr") e
 statement_bits_text symbols outputs e =
     ap (λ t. codes "expr " ++ t) (bits_append (expr_bits symbols outputs e) end_bits ∙ ap (λ t. t ++ codes ";\n") (expr_bits_text symbols outputs e))
 
-pub spec_text : (spec : Specification) → bits_text (spec_bits spec) ≡ printed spec
-spec_text spec =
+pub spec_text : (spec : Specification) → needs_version_2 spec ≡ false → spec.scans ≡ [] → bits_text (spec_bits spec) ≡ printed spec
+spec_text spec old none =
     let ls = names_bits kinds.Line (codes "line") spec.lines in
     let ss = flat_map symbol_bits spec.symbols in
     let os = names_bits kinds.Output (codes "output") spec.outputs in
@@ -59,8 +59,9 @@ spec_text spec =
     ∙ ap (λ t. bits_text ls ++ t) (bits_append ss (os ++ es) ∙ ap (λ t. bits_text ss ++ t) (bits_append os es))
     ∙ four (section_text kinds.Line (codes "line") spec.lines) (flat_text symbol_bits symbol_text (λ s. refl) spec.symbols)
     (section_text kinds.Output (codes "output") spec.outputs)
-    (flat_text (statement_bits (names_in spec) spec.outputs) (statement_text (names_in spec) spec.outputs)
+    (flat_text (statement_bits (names_in spec) spec.outputs) (statement_text (names_in spec) spec.outputs (codes "expr"))
     (statement_bits_text (names_in spec) spec.outputs) spec.statements)
+    ∙ rw (old, none) (simp append-nil)
   where
     four : {a b c d e f g h : List ℕ} → a ≡ e → b ≡ f → c ≡ g → d ≡ h → a ++ (b ++ (c ++ d)) ≡ e ++ (f ++ (g ++ h))
     four {a = a} {b = b} {c = c} {f = f} {g = g} {h = h} w x y z =
@@ -127,6 +128,8 @@ symbol_fits s rest plain some = (
 
 -- What a specification keeps whose text is read back.
 pub record IsPrintable (spec : Specification) : Type 0 where
+  pub old : needs_version_2 spec ≡ false
+  pub no_scans : spec.scans ≡ []
   pub some_lines : spec.lines ≢ []
   pub some_symbols : spec.symbols ≢ []
   pub some_outputs : spec.outputs ≢ []
@@ -201,7 +204,7 @@ module _ (spec : Specification) (h : IsPrintable spec) where
       (proper_at (names_in spec) spec.outputs spec.statements h.proper k e get) r))))
 
   pub printed_lexed : LexemesFrom (printed spec) 0 (tokens_of 0 (spec_bits spec))
-  printed_lexed = lexed (printed spec) 0 (spec_bits spec) (sym (spec_text spec) ∙ sym (append-nil (bits_text (spec_bits spec)))) spec_fits
+  printed_lexed = lexed (printed spec) 0 (spec_bits spec) (sym (spec_text spec h.old h.no_scans) ∙ sym (append-nil (bits_text (spec_bits spec)))) spec_fits
 
 -- parentheses
 

@@ -147,6 +147,7 @@ module _ (symbols outputs : List (List ℕ)) (text : List ℕ)
         means = ap (λ w. lang.marked (meant r.tree) (number_in outputs w)) word ∙ ap (lang.marked (meant r.tree)) (number_outputs y i)
             ∙ ap (λ x. lang.marked x y) r.means;
       }
+  expr_reads (lang.repeated f m n) h place rest stands = absurd h
 
   -- as a whole statement
   pub whole_reads : (e : Expr) → Proper symbols outputs e → ReadsAnywhere unions (expr_bits symbols outputs e) e

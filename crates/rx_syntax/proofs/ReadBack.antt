@@ -1,5 +1,5 @@
 -- The printed text of a specification that was accepted is accepted as the same specification.
-use Rattle.std.proofs.Common.{◌≡◌, ℕ, zero, suc, ◌+◌, ◌<◌, ◌≤◌, true, Some, None, List, [], ◌∷◌, ◌++◌, length, map, flat_map, slice_get, get_or, refl, ap, sym, ◌∙◌, subst, arith, length-append}
+use Rattle.std.proofs.Common.{◌≡◌, ℕ, zero, suc, ◌+◌, ◌<◌, ◌≤◌, true, false, ◌||◌, Some, None, List, [], ◌∷◌, ◌++◌, length, map, flat_map, slice_get, get_or, refl, ap, sym, ◌∙◌, subst, arith, length-append}
 use Rattle.std.specs.Prelude.{◌≢◌, ⊤, slice_index_or, max}
 use Rattle.std.proofs.lemmas.List.{append_assoc, length-map, get_or_append_left, get_or-append-add}
 use Rattle.std.proofs.lemmas.Option.{slice_get_within, get_or_from_slice_get}
@@ -12,7 +12,7 @@ use Rattle.rx_syntax.specs.Accepted.{number_in, resolve, named_pattern, said, Sa
 use Rattle.rx_syntax.specs.NameTables.{names_of, AreNameTables}
 use Rattle.rx_syntax.specs.NameReading.{said_tables, Declares}
 use Rattle.rx_syntax.specs.Refusals.{opened, open_after}
-use Rattle.rx_syntax.specs.Printed.{printed}
+use Rattle.rx_syntax.specs.Printed.{has_repeat, have_repeat, needs_version_2, printed}
 use Rattle.rx_syntax.specs.declared.machine.Due.TheVariants.{FirstLine, NextLine, NextSymbol, NextOutput}
 use Rattle.rx_syntax.specs.Machine.{at, run}
 use Rattle.rx_syntax.proofs.Derived.{goes, lines_run, symbols_run, outputs_run}
@@ -189,10 +189,30 @@ module _ (text : List ℕ) (limit : ℕ) (syntax : Syntax) (says : Says text syn
       subst (AllProper names outputs) (sym statements_meant)
       (exprs_proper syntax.exprs ((line_uses syntax.lines ++ symbol_uses syntax.symbols) ++ output_uses syntax.outputs) refl)
 
+  no_repeat : (symbol output : List ℕ → ℕ) (t : Tree) → has_repeat (resolve symbol output text t) ≡ false
+  no_repeat symbol output (leaf t) = refl
+  no_repeat symbol output (union e f) = ap (λ b. b || has_repeat (resolve symbol output text f)) (no_repeat symbol output e) ∙ no_repeat symbol output f
+  no_repeat symbol output (sequence e f) = ap (λ b. b || has_repeat (resolve symbol output text f)) (no_repeat symbol output e) ∙ no_repeat symbol output f
+  no_repeat symbol output (star e) = no_repeat symbol output e
+  no_repeat symbol output (plus e) = no_repeat symbol output e
+  no_repeat symbol output (optional e) = no_repeat symbol output e
+  no_repeat symbol output (marked e t) = no_repeat symbol output e
+
+  no_repeats : (symbol output : List ℕ → ℕ) (ts : List Tree) → have_repeat (map (resolve symbol output text) ts) ≡ false
+  no_repeats symbol output [] = refl
+  no_repeats symbol output (t ∷ ts) = ap (λ b. b || have_repeat (map (resolve symbol output text) ts)) (no_repeat symbol output t) ∙ no_repeats symbol output ts
+
+  is_old : needs_version_2 (said text syntax) ≡ false
+  is_old =
+      ap (λ b. (b || false) || false)
+      (no_repeats (number_in (map (λ s. word_of text s.name) syntax.symbols)) (number_in (map (word_of text) syntax.outputs)) syntax.exprs)
+
   printable : IsPrintable (said text syntax)
   printable =
       let plain = plain_names text syntax says in
       record {
+        old = is_old;
+        no_scans = refl;
         some_lines = not_empty (map (word_of text) syntax.lines) kept.some_lines;
         some_symbols = not_empty (map (named_pattern text) syntax.symbols) kept.some_symbols;
         some_outputs = not_empty outputs kept.some_outputs;

@@ -110,6 +110,7 @@ module _ (symbols outputs : List (List ℕ)) where
   expr_words (lang.plus f) = expr_words f
   expr_words (lang.optional f) = expr_words f
   expr_words (lang.marked f y) = expr_words f ++ (mark_word (slice_index_or outputs y []) ∷ [])
+  expr_words (lang.repeated f m n) = expr_words f
 
   abbrev pub AllProper : List Expr → Type 0
   AllProper [] = ⊤

@@ -41,6 +41,7 @@ said text syntax = record {
   symbols = map (named_pattern text) syntax.symbols;
   outputs = map (word_of text) syntax.outputs;
   statements = map (resolve (number_in (map (λ s. word_of text s.name) syntax.symbols)) (number_in (map (word_of text) syntax.outputs)) text) syntax.exprs;
+  scans = [];
 }
 
 -- The tokens of the text are a specification that says this, and no structural code stands.

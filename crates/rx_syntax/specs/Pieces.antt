@@ -1,15 +1,19 @@
 -- Pieces of an expression that wait to be printed.
 use Rattle.std.specs.Prelude.{◌≡◌, ℕ, ◌+◌, ◌<◌, List, [], ◌∷◌, ◌++◌, length, map, codes, slice_index_or, if◌then◌else◌, ⊤}
-use Rattle.rx_lang.specs.Expression.{Expr, symbol, sequence, union, star, plus, optional, marked}
+use Rattle.rx_lang.specs.Expression.{Expr, symbol, sequence, union, star, plus, optional, marked, repeated}
 use Rattle.rx_lang.specs.Tables.{Tables}
 use Rattle.rx_lang.specs.VectorWords.{node_tree}
 use Rattle.rx_syntax.specs.declared.print.Piece.{Piece}
-use Rattle.rx_syntax.specs.declared.print.Piece.TheVariants.{Node, Enclosed, Or, Then, Star, Plus, Optional, Mark, Close}
-use Rattle.rx_syntax.specs.Printed.{expr_text, is_compound}
+use Rattle.rx_syntax.specs.declared.print.Piece.TheVariants.{Node, Enclosed, Or, Then, Star, Plus, Optional, Mark, Bounds, Close}
+use Rattle.rx_syntax.specs.Printed.{bounds_text, expr_text, is_compound, statement_text}
 
 -- the text of the tree of this node
 abbrev pub node_text : Tables → ℕ → List ℕ
 node_text tables k = expr_text (map (λ s. s.name) tables.symbols) tables.outputs (node_tree tables k)
+
+-- the statement of this keyword with the tree of this node
+abbrev pub node_statement : Tables → List ℕ → ℕ → List ℕ
+node_statement tables keyword root = statement_text (map (λ s. s.name) tables.symbols) tables.outputs keyword (node_tree tables root)
 
 abbrev pub piece_text : Tables → Piece → List ℕ
 piece_text tables (Node k) = node_text tables k
@@ -20,6 +24,7 @@ piece_text tables Star = codes "*"
 piece_text tables Plus = codes "+"
 piece_text tables Optional = codes "?"
 piece_text tables (Mark y) = codes " !" ++ slice_index_or tables.outputs y []
+piece_text tables (Bounds m n) = bounds_text m n
 piece_text tables Close = codes ")"
 
 -- the text of what waits, the last piece first
@@ -37,6 +42,7 @@ IsPiece tables Star = ⊤
 IsPiece tables Plus = ⊤
 IsPiece tables Optional = ⊤
 IsPiece tables (Mark y) = y < length tables.outputs
+IsPiece tables (Bounds m n) = ⊤
 IsPiece tables Close = ⊤
 
 abbrev pub ArePieces : Tables → List Piece → Type 0
@@ -52,6 +58,7 @@ tree_pieces (star f) = tree_pieces f + 4
 tree_pieces (plus f) = tree_pieces f + 4
 tree_pieces (optional f) = tree_pieces f + 4
 tree_pieces (marked f y) = tree_pieces f + 4
+tree_pieces (repeated f m n) = tree_pieces f + 4
 
 abbrev pub count_of : Tables → Piece → ℕ
 count_of tables (Node k) = tree_pieces (node_tree tables k)
@@ -62,6 +69,7 @@ count_of tables Star = 1
 count_of tables Plus = 1
 count_of tables Optional = 1
 count_of tables (Mark y) = 1
+count_of tables (Bounds m n) = 1
 count_of tables Close = 1
 
 abbrev pub counts_of : Tables → List Piece → ℕ

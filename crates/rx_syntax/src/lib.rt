@@ -17,6 +17,7 @@ mod nodes;
 mod print;
 pub mod print_examples;
 pub mod read;
+mod repeats;
 pub mod shape;
 mod spec_code;
 mod use_kind;

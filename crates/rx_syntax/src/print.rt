@@ -1,17 +1,18 @@
 // Specifications as texts. Expressions are printed from a stack of the pieces that wait, so deep ones cost no calls.
 
-ghost use Rattle.std.specs.Prelude.{◌≡◌, ◌<◌, ◌++◌, List, length, map, IfOk, OnOk, if◌then◌else◌};
+ghost use Rattle.std.specs.Prelude.{◌≡◌, ◌<◌, ◌++◌, All, List, flat_map, length, map, IfOk, OnOk, if◌then◌else◌};
 ghost use Rattle.rx_lang.specs.Tables.{specification, tree_of};
 ghost use Rattle.rx_lang.specs.Expression.{Expr};
 ghost use Rattle.rx_lang.specs.VectorWords.{node_tree};
 ghost use Rattle.rx_syntax.specs.Tokens.{place_byte};
-ghost use Rattle.rx_syntax.specs.Printed.{is_compound, is_union, names_text, printed, statement_text, symbol_text};
-ghost use Rattle.rx_syntax.specs.Pieces.{IsPiece, Puts, Stacked, node_text};
+ghost use Rattle.rx_syntax.specs.Printed.{bounds_text, is_compound, is_union, names_text, printed, symbol_text, version_text};
+ghost use Rattle.rx_syntax.specs.Pieces.{IsPiece, Puts, Stacked, node_statement, node_text};
 ghost use Rattle.rx_syntax.specs.declared.print.Piece.TheVariants.{Enclosed, Node};
 
 use crate::no_memory::NoMemory;
+use crate::repeats::needs_version_2;
 use rx_lang::{ExprNode, PatternBit, Spec, Symbol};
-use rx_text::Name;
+use rx_text::{Name, NumberText};
 use std::alloc::Global;
 
 /// A piece of an expression: the tree of a node, that in parentheses, or what stands between and behind trees.
@@ -25,24 +26,52 @@ enum Piece {
     Plus,
     Optional,
     Mark(u8),
+    Bounds(u8, u8),
     Close,
 }
 
 /// The text of a specification: the statement of its lines, one for each symbol, the statement of its outputs, and one for
-/// each expression, each on a line of its own. Parentheses stand only where they are needed.
+/// each expression, each on a line of its own. The line `version 2;` stands before them exactly where a counted repeat or
+/// a `scan` statement follows. Parentheses stand only where they are needed.
 pub fn print_spec(alloc: Global, spec: &Spec) -> Result<Vec<u8>, NoMemory>
     ensures { IfOk result (λ text. text.items ≡ printed (specification spec.now)) }
 {
     let mut text = Vec::new(alloc);
+    put_version(&mut text, needs_version_2(alloc, spec)?)?;
     put_names(&mut text, b"line", spec.lines())?;
     for symbol in spec.symbols() {
         put_symbol(&mut text, symbol)?;
     }
     put_names(&mut text, b"output", spec.outputs())?;
-    for root in spec.exprs() {
-        put_statement(alloc, &mut text, spec, *root)?;
-    }
+    put_statements(alloc, &mut text, spec, b"expr", spec.exprs())?;
+    put_statements(alloc, &mut text, spec, b"scan", spec.scans())?;
     Ok(text)
+}
+
+fn put_version(text: &mut Vec<u8>, needed: bool) -> Result<(), NoMemory>
+    ensures { OnOk result (text.new.items ≡ text.old.items ++ version_text needed) }
+{
+    if needed {
+        text.extend_from_slice(b"version 2;\n")?;
+    }
+    Ok(())
+}
+
+// The statements of this keyword, whose expressions have these roots.
+fn put_statements(
+    alloc: Global,
+    text: &mut Vec<u8>,
+    spec: &Spec,
+    keyword: &[u8],
+    roots: &[u32],
+) -> Result<(), NoMemory>
+    requires { All (λ root. root < length spec.now.nodes) roots.now }
+    ensures { OnOk result (text.new.items ≡ text.old.items ++ flat_map (λ root. node_statement spec.now keyword.now root) roots.now) }
+{
+    for root in roots {
+        put_statement(alloc, text, spec, keyword, *root)?;
+    }
+    Ok(())
 }
 
 fn put_names(text: &mut Vec<u8>, keyword: &[u8], names: &[Name]) -> Result<(), NoMemory>
@@ -87,11 +116,18 @@ fn byte_of_place(place: PatternBit) -> u8
     }
 }
 
-fn put_statement(alloc: Global, text: &mut Vec<u8>, spec: &Spec, root: u32) -> Result<(), NoMemory>
+fn put_statement(
+    alloc: Global,
+    text: &mut Vec<u8>,
+    spec: &Spec,
+    keyword: &[u8],
+    root: u32,
+) -> Result<(), NoMemory>
     requires { root < length spec.now.nodes }
-    ensures { OnOk result (text.new.items ≡ text.old.items ++ statement_text (map (λ s. s.name) spec.now.symbols) spec.now.outputs (node_tree spec.now root)) }
+    ensures { OnOk result (text.new.items ≡ text.old.items ++ node_statement spec.now keyword.now root) }
 {
-    text.extend_from_slice(b"expr ")?;
+    text.extend_from_slice(keyword)?;
+    text.push(b' ')?;
     put_expr(alloc, text, spec, root)?;
     text.extend_from_slice(b";\n")?;
     Ok(())
@@ -136,6 +172,7 @@ fn put_piece(
             let name = &spec.outputs()[output as usize];
             text.extend_from_slice(name.as_bytes())?;
         }
+        Piece::Bounds(least, most) => put_bounds(text, least, most)?,
         Piece::Close => text.push(b')')?,
     }
     Ok(())
@@ -170,7 +207,21 @@ fn put_node(
         ExprNode::Plus(inner) => put_signed(stack, spec, inner, Piece::Plus)?,
         ExprNode::Opt(inner) => put_signed(stack, spec, inner, Piece::Optional)?,
         ExprNode::Mark(inner, output) => put_signed(stack, spec, inner, Piece::Mark(output))?,
+        ExprNode::Repeat(inner, least, most) => {
+            put_signed(stack, spec, inner, Piece::Bounds(least, most))?;
+        }
     }
+    Ok(())
+}
+
+fn put_bounds(text: &mut Vec<u8>, least: u8, most: u8) -> Result<(), NoMemory>
+    ensures { OnOk result (text.new.items ≡ text.old.items ++ bounds_text least most) }
+{
+    text.push(b'{')?;
+    text.extend_from_slice(NumberText::of(i128::from(least)).as_bytes())?;
+    text.push(b',')?;
+    text.extend_from_slice(NumberText::of(i128::from(most)).as_bytes())?;
+    text.push(b'}')?;
     Ok(())
 }
 

@@ -70,7 +70,7 @@ pub fn read_spec(alloc: Global, text: &[u8], most_leaves: u32) -> Result<Spec, R
     };
     let (nodes, exprs) = read_nodes(alloc, text, &declarations)?;
     let (lines, symbols, outputs) = declarations.into_parts(alloc)?;
-    Ok(Spec::new(lines, symbols, outputs, nodes, exprs))
+    Ok(Spec::new(lines, symbols, outputs, nodes, exprs, Vec::new(alloc)))
 }
 
 // The fault of names and limits in this text, by line and column.

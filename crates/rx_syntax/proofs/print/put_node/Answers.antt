@@ -1,8 +1,8 @@
 use Rattle.std.proofs.Common.{◌≡◌, ◌∙◌, ◌<◌, [], length, map, get_or, refl, sym, ap, subst, arith}
 use Rattle.std.proofs.lemmas.List.{get_or-map}
-use Rattle.rx_lang.specs.declared.expr_node.ExprNode.TheVariants.{Leaf, Seq, Alt, Star, Plus, Opt, Mark}
+use Rattle.rx_lang.specs.declared.expr_node.ExprNode.TheVariants.{Leaf, Seq, Alt, Star, Plus, Opt, Mark, Repeat}
 use Rattle.rx_lang.specs.VectorWords.{node_tree}
-use Rattle.rx_lang.specs.Expression.{symbol, star, plus, optional, marked}
+use Rattle.rx_lang.specs.Expression.{symbol, star, plus, optional, marked, repeated}
 use Rattle.rx_syntax.specs.declared.print.Piece.TheVariants as Pieces
 use Rattle.rx_syntax.specs.Printed.{expr_text}
 use Rattle.rx_syntax.specs.Pieces.{node_text, tree_pieces}
@@ -119,3 +119,19 @@ returns-in_ok-put_signed-in-Mark c =
     (puts_signed c.args.spec.now c.args.node c.args.text.now.items c.args.stack.now.items c.in-Mark.inner (Pieces.Mark c.in-Mark.output)
     (ap (expr_text (map (λ s. s.name) c.args.spec.now.symbols) c.args.spec.now.outputs) tree) (ap tree_pieces tree) refl (names_in c.args.spec.now c.nodes.ensures.specification c.nodes.result.now c.nodes.ensures.nodes c.args.node (Leaf 0) (Mark c.in-Mark.inner c.in-Mark.output) c.requires c.in-Mark.is)
     (children_in c.args.spec.now c.nodes.ensures.specification c.nodes.result.now c.nodes.ensures.nodes c.args.node (Leaf 0) (Mark c.in-Mark.inner c.in-Mark.output) c.requires c.in-Mark.is 0 0 (omega arith)))
+
+pub put_signed-requires-in-Repeat : goal.put_signed-requires-in-Repeat
+put_signed-requires-in-Repeat c =
+    children_in c.args.spec.now c.nodes.ensures.specification c.nodes.result.now c.nodes.ensures.nodes c.args.node (Leaf 0)
+    (Repeat c.in-Repeat.inner c.in-Repeat.least c.in-Repeat.most) c.requires c.in-Repeat.is 0 0 (omega arith)
+
+pub returns-in_ok-put_signed-in-Repeat : goal.returns-in_ok-put_signed-in-Repeat
+returns-in_ok-put_signed-in-Repeat c =
+    let tree : node_tree c.args.spec.now c.args.node ≡ repeated (node_tree c.args.spec.now c.in-Repeat.inner) c.in-Repeat.least c.in-Repeat.most
+    = tree_is c.args.spec.now c.nodes.ensures.specification c.nodes.result.now c.nodes.ensures.nodes c.args.node (Leaf 0)
+    (Repeat c.in-Repeat.inner c.in-Repeat.least c.in-Repeat.most) c.requires c.in-Repeat.is in
+    rw c.in_ok-put_signed-in-Repeat.ensures
+    (puts_signed c.args.spec.now c.args.node c.args.text.now.items c.args.stack.now.items c.in-Repeat.inner (Pieces.Bounds c.in-Repeat.least c.in-Repeat.most)
+    (ap (expr_text (map (λ s. s.name) c.args.spec.now.symbols) c.args.spec.now.outputs) tree) (ap tree_pieces tree) refl tt
+    (children_in c.args.spec.now c.nodes.ensures.specification c.nodes.result.now c.nodes.ensures.nodes c.args.node (Leaf 0)
+    (Repeat c.in-Repeat.inner c.in-Repeat.least c.in-Repeat.most) c.requires c.in-Repeat.is 0 0 (omega arith)))
