@@ -7,7 +7,6 @@ pub mod Fixed
 pub mod Pulled
 pub mod Updated
 pub mod Iterates
-pub mod Existing
 pub mod Cuts
 pub mod LineFaults
 pub mod TextLines

@@ -10,7 +10,7 @@ use Rattle.switch_net.specs.Validity.{IsNetwork}
 use Rattle.switch_net.specs.declared.network.Level.{Level}
 use Rattle.switch_sim.specs.Marking.{level_at}
 use Rattle.switch_sim.specs.TraceLines.{clock_line, lines_from, TraceLines, GainsLines, GainsFront}
-use Rattle.switch_sim.proofs.Existing.{clock_exists, clocks_exist}
+use Rattle.switch_net.specs.LeastLevels.{ClocksLevelsExist, RunLevelsExist}
 
 -- the levels after the last of these clocks
 abbrev pub last_of : Levels → List Levels → Levels
@@ -80,12 +80,12 @@ module _ (circuit : Circuit) where
   pub all_lines : (u : List (List Bool)) (v : Levels) (text : List ℕ) → Runs u v text → TraceLines circuit u text
   all_lines u v text run = record { levels = run.first ∷ run.later; run = (run.begins, run.goes); lines = run.lines }
 
-  module _ (valid : IsNetwork circuit) where
+  module _ (clocks_exist : ClocksLevelsExist) (valid : IsNetwork circuit) where
     -- the run goes on to the end of the trace
     pub front_gained : (u more : List (List Bool)) (v : List Level) (text : List ℕ) (old new : Option (List ℕ)) → Runs u (level_at v) text → AppendsFront old new text
         → GainsFront old new circuit (u ++ more)
     front_gained u more v text old new run front =
-        let rest = clocks_exist circuit valid more v in
+        let rest = clocks_exist circuit valid (level_at v) more in
         record {
           text = text ++ lines_from circuit (0 + length (run.first ∷ run.later)) rest.0;
           lines = record {
@@ -97,16 +97,15 @@ module _ (circuit : Circuit) where
           gained = AppendsFront-within_first old new text (lines_from circuit (0 + length (run.first ∷ run.later)) rest.0) front;
         }
 
-    -- nothing was written
-    pub none_gained : (vectors : List (List Bool)) (held : Option (List ℕ)) → GainsFront held held circuit vectors
-    none_gained vectors held =
-        let first = clock_exists circuit valid true [] [] in
-        let rest = clocks_exist circuit valid vectors first.0 in
-        record {
-          text = lines_from circuit 0 (level_at first.0 ∷ rest.0);
-          lines = record { levels = level_at first.0 ∷ rest.0; run = (first.1, rest.1); lines = refl };
-          gained = record { front = []; rest = lines_from circuit 0 (level_at first.0 ∷ rest.0); whole = refl; appends = Appends-nil held };
-        }
+  -- nothing was written
+  pub none_gained : RunLevelsExist → IsNetwork circuit → (vectors : List (List Bool)) (held : Option (List ℕ)) → GainsFront held held circuit vectors
+  none_gained run_exists valid vectors held =
+      let run = run_exists circuit valid nothing_known [] vectors in
+      record {
+        text = lines_from circuit 0 run.0;
+        lines = record { levels = run.0; run = run.1; lines = refl };
+        gained = record { front = []; rest = lines_from circuit 0 run.0; whole = refl; appends = Appends-nil held };
+      }
 
   -- ---- what a sink has gained of a run
   pub record Shown (u : List (List Bool)) (current : Levels) (old new : Option (List ℕ)) : Type 0 where
@@ -129,11 +128,11 @@ module _ (circuit : Circuit) where
   pub shown_all : (u : List (List Bool)) (v : Levels) (old new : Option (List ℕ)) → Shown u v old new → GainsLines old new circuit u
   shown_all u v old new shown = record { text = shown.text; lines = all_lines u v shown.text shown.runs; gained = shown.gained }
 
-  module _ (valid : IsNetwork circuit) where
+  module _ (clocks_exist : ClocksLevelsExist) (valid : IsNetwork circuit) where
     pub first_failed : (vectors : List (List Bool)) (v : List Level) (old new : Option (List ℕ)) → ClockLevels circuit true [] nothing_known (level_at v)
         → AppendsFront old new (clock_line circuit 0 (level_at v)) → GainsFront old new circuit vectors
     first_failed vectors v old new clock front =
-        front_gained valid [] vectors v (clock_line circuit 0 (level_at v)) old new (starts (level_at v) clock) front
+        front_gained clocks_exist valid [] vectors v (clock_line circuit 0 (level_at v)) old new (starts (level_at v) clock) front
 
     pub later_failed : (vectors u more : List (List Bool)) (v w : List Level) (old mid new : Option (List ℕ)) (x : List Bool) (clock : ℕ) → clock ≡ length u + 1
         → vectors ≡ (u ++ x ∷ []) ++ more
@@ -141,6 +140,6 @@ module _ (circuit : Circuit) where
         → GainsFront old new circuit vectors
     later_failed vectors u more v w old mid new x clock number whole shown step front =
         subst (GainsFront old new circuit) (sym whole)
-        (front_gained valid (u ++ x ∷ []) more w (shown.text ++ clock_line circuit clock (level_at w)) old new
+        (front_gained clocks_exist valid (u ++ x ∷ []) more w (shown.text ++ clock_line circuit clock (level_at w)) old new
         (goes_on u (level_at v) (level_at w) shown.text x clock number shown.runs step)
         (AppendsFront-within_second old mid new shown.text (clock_line circuit clock (level_at w)) shown.gained front))

@@ -11,7 +11,7 @@ use Rattle.switch_net.specs.declared.network.Level.TheVariants.{High}
 use Rattle.switch_sim.specs.declared.marks.Marks.{Marks}
 use Rattle.switch_sim.specs.Marking.{loaded, joined, no_marks, marks_at, level_at}
 use Rattle.switch_sim.specs.Incidence.{EndsAt, IsLeastAbove}
-use Rattle.switch_sim.specs.Spreading.{TakesNothing, IsAtRest, RestsOrWaits, Spreads, work_left}
+use Rattle.switch_sim.specs.Spreading.{TakesNothing, IsAtRest, RestsOrWaits, Spreads}
 use Rattle.switch_sim.specs.Waiting.{Waits}
 use Rattle.switch_sim.proofs.Gains.{set_fewer}
 use Rattle.switch_sim.proofs.Queues.{waits_more}

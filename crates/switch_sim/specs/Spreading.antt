@@ -8,7 +8,7 @@ use Rattle.switch_net.specs.declared.network.Level.TheVariants.{High}
 use Rattle.switch_sim.specs.declared.marks.Marks.{Marks}
 use Rattle.switch_sim.specs.Incidence.{EndsAt}
 use Rattle.switch_sim.specs.Marking.{Mark, has, loaded, own_marks, joined, Led, marks_at, fixed_at, level_at}
-use Rattle.switch_sim.specs.Waiting.{Waits, Queue}
+use Rattle.switch_sim.specs.Waiting.{Waits}
 
 -- the marks when the net, unless a pad fixes it, took those of another over a device whose gate has this level
 abbrev pub led : List (Option Bool) → ℕ → Marks → Level → List Marks → List Marks

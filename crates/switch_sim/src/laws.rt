@@ -9,6 +9,8 @@ ghost use Rattle.switch_sim.specs.TraceTexts.{IsTrace, TraceRefusal};
 ghost use Rattle.switch_sim.specs.TraceLaws.{BeginsWithTrace};
 ghost use Rattle.switch_sim.specs.declared.trace_code.TraceCode.{TraceCode};
 
+use switch_net::ternary_runs_exist;
+
 /// Every text begins with one trace or is refused with one code at one place, and never both. It runs nothing: a caller
 /// has the law from its contract.
 pub fn texts_are_traces_or_refused()
@@ -20,8 +22,17 @@ pub fn texts_are_traces_or_refused()
         → TraceRefusal text code place → TraceRefusal text other elsewhere → (code ≡ other) × (place ≡ elsewhere) }
 {}
 
-/// A run through these vectors has one output. It runs nothing: a caller has the law from its contract.
+/// A run through these vectors has an output. It runs nothing: a caller has the law from its contract.
+pub fn traces_have_an_output()
+    ensures { (circuit : Circuit) → IsNetwork circuit → (vectors : List (List Bool)) → (text : List ℕ) × TraceLines circuit vectors text }
+{
+    ternary_runs_exist();
+}
+
+/// And it has no other. It runs nothing: a caller has the law from its contract.
 pub fn traces_have_one_output()
     ensures { (circuit : Circuit) → IsNetwork circuit → (vectors : List (List Bool)) (some others : List ℕ)
         → TraceLines circuit vectors some → TraceLines circuit vectors others → some ≡ others }
-{}
+{
+    ternary_runs_exist();
+}

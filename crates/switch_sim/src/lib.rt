@@ -14,7 +14,7 @@ mod trace;
 mod trace_code;
 mod waiting;
 
-pub use laws::{texts_are_traces_or_refused, traces_have_one_output};
+pub use laws::{texts_are_traces_or_refused, traces_have_an_output, traces_have_one_output};
 pub use no_memory::NoMemory;
 pub use run::{RunFault, run_trace};
 pub use sim::Sim;

@@ -14,7 +14,7 @@ use crate::trace::Trace;
 use rx_io::{Failed, Sink, put_all};
 use rx_text::{NumberText, Role};
 use std::alloc::Global;
-use switch_net::{Level, Network, Pad};
+use switch_net::{Level, Network, Pad, ternary_runs_exist};
 use thiserror::Error;
 
 /// Why a trace is not run to its end.
@@ -74,6 +74,7 @@ pub fn run_trace<K: Sink>(
     ensures cause { IsErrOf result RunFault.WriteFault
         → Rose (K.faults sink.old) (K.faults sink.new) }
 {
+    ternary_runs_exist();
     let pads = network.pads();
     if let Some(vector) = first_wrong(network, trace) {
         return Err(RunFault::WrongWidth { vector });

@@ -1,4 +1,4 @@
-use Rattle.std.proofs.Common.{◌≡◌, ◌<◌, length, get_or, arith, sym, subst}
+use Rattle.std.proofs.Common.{◌≡◌, length, get_or, arith, sym, subst}
 use Rattle.switch_net.specs.ClockedLogic.{NamesBelow}
 use Rattle.switch_sim.specs.Incidence.{AreEarlier, AreLast}
 use Rattle.switch_sim.proofs.Chains.{nowhere, one_below, other_below, none_last, last_more, earlier_more}

@@ -1,4 +1,4 @@
-use Rattle.std.proofs.Common.{◌≡◌, ◌<◌, ◌≤◌, ◌+◌, ◌-◌, length, get_or, arith, sym, subst, ◌∙◌}
+use Rattle.std.proofs.Common.{◌≡◌, ◌<◌, ◌+◌, ◌-◌, length, arith, sym, subst, ◌∙◌}
 use Rattle.switch_sim.specs.Spreading.{AreJust}
 use Rattle.switch_sim.proofs.Chains.{nowhere}
 use Rattle.switch_sim.proofs.Marked.{just_spread}

@@ -1,4 +1,4 @@
-use Rattle.std.proofs.Common.{◌≡◌, ◌<◌, [], List, length, get_or, refl, sym, subst, ◌∙◌}
+use Rattle.std.proofs.Common.{◌≡◌, ◌<◌, [], length, get_or, refl, sym, subst, ◌∙◌}
 use Rattle.std.proofs.lemmas.List.Elements.{recursion_from_All}
 use Rattle.switch_sim.specs.Spreading.{IsAtRest, RestsOrWaits, AreJust}
 use Rattle.switch_sim.proofs.Marked.{just_first, all_marked}

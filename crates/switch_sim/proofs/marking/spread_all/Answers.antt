@@ -1,5 +1,4 @@
-use Rattle.std.proofs.Common.{◌≡◌, ◌<◌, length, get_or, arith, refl, sym, subst, ◌∙◌}
-use Rattle.switch_net.specs.ClockedLogic.{NamesBelow}
+use Rattle.std.proofs.Common.{length, arith, refl, sym, subst, ◌∙◌}
 use Rattle.switch_sim.specs.Spreading.{AreJust}
 use Rattle.switch_sim.proofs.Chains.{nowhere}
 use Rattle.switch_sim.proofs.Marked.{just_spread}

@@ -44,16 +44,16 @@ line_of : (circuit network : Circuit) (clock : ℕ) (v : Levels) (old new : Opti
 line_of circuit network clock v old new e h = subst (λ (k : Circuit). Appends old new (clock_line k clock v)) e h
 
 pub returns-in-Some-clause-front : goal.returns-in-Some-clause-front
-returns-in-Some-clause-front g c = none_gained c.args.network.now c.pads-pads.ensures.valid c.args.trace.now _
+returns-in-Some-clause-front g c = none_gained c.args.network.now c.ternary_runs_exist.ensures.run c.pads-pads.ensures.valid c.args.trace.now _
 
 pub returns-in_err-sim-clause-front : goal.returns-in_err-sim-clause-front
-returns-in_err-sim-clause-front g c = on_err c.from_residual.result _ (none_gained c.args.network.now c.pads-pads.ensures.valid c.args.trace.now _)
+returns-in_err-sim-clause-front g c = on_err c.from_residual.result _ (none_gained c.args.network.now c.ternary_runs_exist.ensures.run c.pads-pads.ensures.valid c.args.trace.now _)
 
 pub returns-in_err-put_line-clause-front : goal.returns-in_err-put_line-clause-front
 returns-in_err-put_line-clause-front g c =
     let circuit : c.clock.new.self.circuit ≡ c.args.network.now = c.clock.ensures.circuit ∙ ap (λ (s : Simulation). s.circuit) c.in_ok-sim.ensures in
     on_err c.from_residual-in_err-put_line.result _
-    (first_failed c.args.network.now c.pads-pads.ensures.valid c.args.trace.now c.clock.new.self.levels _ _
+    (first_failed c.args.network.now c.ternary_runs_exist.ensures.clocks c.pads-pads.ensures.valid c.args.trace.now c.clock.new.self.levels _ _
     (first_clock c.in_ok-sim.sim c.args.network.now _ c.in_ok-sim.ensures c.clock.ensures.levels)
     (front_of _ _ _ _ _ _ circuit c.in_err-put_line.ensures.front))
 
@@ -77,7 +77,7 @@ returns-in_err-put_line-2-clause-front g c =
     let whole : trace ≡ (take at trace ++ get_or trace at [] ∷ []) ++ drop (at + 1) trace =
     sym (take-append-drop (at + 1) trace) ∙ ap (λ l. l ++ drop (at + 1) trace) (take_more trace at [] lt) in
     on_err c.from_residual-in_err-put_line-2.result _
-    (later_failed c.args.network.now c.pads-pads.ensures.valid trace (take at trace) (drop (at + 1) trace) c.loop-at.sim.levels
+    (later_failed c.args.network.now c.ternary_runs_exist.ensures.clocks c.pads-pads.ensures.valid trace (take at trace) (drop (at + 1) trace) c.loop-at.sim.levels
     c.clock-in-loop-at.new.self.levels _ _ _ (get_or trace at []) (at + 1) (omega arith) whole c.loop-at.invariant.shown
     (next_clock _ _ _ _ _ _ c.loop-at.invariant.circuit c.vector.ensures c.clock-in-loop-at.ensures.levels)
     (front_of _ _ _ _ _ _ circuit c.in_err-put_line-2.ensures.front))

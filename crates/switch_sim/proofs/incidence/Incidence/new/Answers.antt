@@ -1,6 +1,5 @@
-use Rattle.std.proofs.Common.{◌≡◌, length, List, ap, sym, subst, ◌∙◌, arith}
+use Rattle.std.proofs.Common.{◌≡◌, length, ap, sym, subst, ◌∙◌, arith}
 use Rattle.std.proofs.lemmas.List.{with_items_is}
-use Rattle.std.specs.Vec.{with_items}
 use Rattle.switch_sim.specs.Incidence.{AreEarlier, AreLast}
 use Rattle.switch_sim.proofs.incidence.Incidence.new.Goals as goal
 
