@@ -3,7 +3,6 @@ use Rattle.std.proofs.Common.{◌≡◌, ℤ, List, [], ◌∷◌, ◌++◌, ref
 use Rattle.rx_text.specs.declared.place.Place.{Place}
 use Rattle.rx_text.specs.declared.place.Place.TheVariants.{Square}
 use Rattle.geom.specs.declared.chip.Label.{Label}
-use Rattle.geom.specs.Squares.{Covered}
 use Rattle.geom.specs.Conduction.{Drawing}
 use Rattle.switch_net.specs.Circuit.{Circuit}
 use Rattle.nmos_model.specs.declared.refusal.ExtractCode.{ExtractCode}
@@ -49,8 +48,8 @@ module _ (Drawn : Drawing) (labels : List Label) (circuit : Circuit) (named : Ar
   not_refused _ _ (missing_pad h n lacks) = lacks.2 (s.sound.needed lacks.0 lacks.1)
   not_refused _ _ (odd_load x y h n has f) = no_odd_load x y f.holds
 
-pub never_both : NeverBoth
-never_both boxes labels circuit code place named s r = not_refused (Covered boxes) labels circuit named s code place r
+pub never_both : (Drawn : Drawing) → NeverBoth Drawn
+never_both Drawn labels circuit code place named s r = not_refused Drawn labels circuit named s code place r
 
 -- ---- once
 
@@ -124,5 +123,5 @@ module _ (Drawn : Drawing) (labels : List Label) where
   once _ _ _ _ (odd_load x y h n has f) (missing_pad k m lacks) = absurd (has lacks)
   once _ _ _ _ (odd_load x y h n has f) (odd_load u v k m hast g) = (refl, one_square x y u v (one_region Drawn (IsOddLoad Drawn labels) x y u v f g))
 
-pub refused_once : RefusedOnce
-refused_once boxes labels code other place there p q = once (Covered boxes) labels code other place there p q
+pub refused_once : (Drawn : Drawing) → RefusedOnce Drawn
+refused_once Drawn labels code other place there p q = once Drawn labels code other place there p q

@@ -31,3 +31,4 @@ pub mod Roles
 pub mod ChannelDevices
 pub mod Circuits
 pub mod NearChannels
+mod AlikeDrawings

@@ -12,5 +12,6 @@ pub mod Devices
 pub mod Networks
 pub mod Regions
 pub mod Refusals
+pub mod Alike
 pub mod Unsound
 pub mod KnownPads

@@ -4,7 +4,7 @@ use Rattle.rx_text.specs.declared.place.Place.{Place}
 use Rattle.rx_text.specs.declared.place.Place.TheVariants.{Square, Whole}
 use Rattle.rx_text.specs.declared.pad_name.Role.TheVariants.{Vdd}
 use Rattle.geom.specs.declared.chip.Label.{Label}
-use Rattle.geom.specs.Squares.{BoxShape, Covered}
+use Rattle.geom.specs.Squares.{BoxShape}
 use Rattle.geom.specs.Rows.{Among}
 use Rattle.geom.specs.Conduction.{Drawing, Spot, Conducts, Joined}
 use Rattle.switch_net.specs.Circuit.{Circuit, IsSameNetwork}
@@ -105,17 +105,17 @@ abbrev pub plain_fault : ReadChipFault → PlainFault
 plain_fault (Fault fault) = plain.Fault fault
 plain_fault NoMemory = plain.NoMemory
 
--- No boxes and labels stand for a network and are refused too.
-abbrev pub NeverBoth : Type 0
-NeverBoth = (boxes : List BoxShape) (labels : List Label) (circuit : Circuit) (code : ExtractCode) (place : Place) → AreNamed labels
-    → StandsFor (Covered boxes) labels circuit → IsRefused (Covered boxes) labels code place → ⊥
+-- No labels let the drawing stand for a network and be refused too.
+abbrev pub NeverBoth : Drawing → Type 0
+NeverBoth Drawn = (labels : List Label) (circuit : Circuit) (code : ExtractCode) (place : Place) → AreNamed labels
+    → StandsFor Drawn labels circuit → IsRefused Drawn labels code place → ⊥
 
--- They are refused in one way.
-abbrev pub RefusedOnce : Type 0
-RefusedOnce = (boxes : List BoxShape) (labels : List Label) (code other : ExtractCode) (place there : Place)
-    → IsRefused (Covered boxes) labels code place → IsRefused (Covered boxes) labels other there → (code ≡ other) × (place ≡ there)
+-- The drawing with labels is refused in one way.
+abbrev pub RefusedOnce : Drawing → Type 0
+RefusedOnce Drawn = (labels : List Label) (code other : ExtractCode) (place there : Place)
+    → IsRefused Drawn labels code place → IsRefused Drawn labels other there → (code ≡ other) × (place ≡ there)
 
--- They stand for one network, up to the numbers of its nets and the order of its devices.
-abbrev pub StandForOne : Type 0
-StandForOne = (boxes : List BoxShape) (labels : List Label) (one other : Circuit) → AreNamed labels
-    → StandsFor (Covered boxes) labels one → StandsFor (Covered boxes) labels other → IsSameNetwork one other
+-- It stands for one network, up to the numbers of its nets and the order of its devices.
+abbrev pub StandForOne : Drawing → Type 0
+StandForOne Drawn = (labels : List Label) (one other : Circuit) → AreNamed labels
+    → StandsFor Drawn labels one → StandsFor Drawn labels other → IsSameNetwork one other

@@ -7,6 +7,7 @@ mod channel_squares;
 mod classes;
 mod conductors;
 mod devices;
+mod drawn;
 mod edges;
 mod frame;
 mod known_pads;
@@ -23,6 +24,7 @@ mod terminals;
 
 pub use channel::Channel;
 pub use classes::{Classes, Graph, classify};
+pub use drawn::Drawn;
 pub use network::{NetMap, network_of};
 pub use no_memory::NoMemory;
 pub use plain::{PlainFault, extract_plain};

@@ -1,9 +1,9 @@
 -- Paths of meeting nets, and names that tell which nets are joined.
-use Rattle.std.proofs.Common.{◌≡◌, ℕ, ◌<◌, refl, sym, ◌∙◌, subst}
+use Rattle.std.proofs.Common.{◌≡◌, ℕ, refl, sym, ◌∙◌, subst}
 use Rattle.stick_grid.specs.Plans.{Plan}
 use Rattle.stick_grid.specs.Pieces.{Piece, Connected}
 use Rattle.stick_grid.specs.Pieces.Connected.{same, east, west, south, north}
-use Rattle.stick_grid.specs.Names.{AreNames, NamesAreNets, PathsJoin, PlansHavePaths}
+use Rattle.stick_grid.specs.Names.{AreNames, NamesAreNets, PlansHavePaths}
 
 module _ (plan : Plan) where
   pub goes_on : (a b c : Piece) → Connected plan a b → Connected plan b c → Connected plan a c

@@ -1,10 +1,8 @@
 -- The nets of tiles that sides name are those that have squares.
-use Rattle.std.proofs.Common.{◌≡◌, ◌-◌, ◌*◌, ℤ, pos, ◌+ℤ◌, sym, ◌∙◌, arith}
+use Rattle.std.proofs.Common.{◌≡◌, ◌-◌, ◌*◌, pos, ◌+ℤ◌, sym, ◌∙◌, arith}
 use Rattle.std.proofs.lemmas.Int.{ints}
 use Rattle.geom.specs.Conduction.{Spot}
-use Rattle.micro_tiles.specs.Designs.{side_net}
 use Rattle.micro_tiles.specs.Strips.{behind_x, behind_y}
-use Rattle.micro_tiles.specs.Table.{design_of}
 use Rattle.micro_tiles.proofs.PortFacts.{ports_name_nets}
 use Rattle.micro_tiles.proofs.SideFacts.{nets_reach_sides}
 use Rattle.stick_grid.specs.Plans.{Plan, IsPlan, local_x, local_y}

@@ -1,5 +1,5 @@
 -- The network that a plan depicts is the one that its squares stand for.
-use Rattle.std.proofs.Common.{◌≡◌, ◌↔◌, ℕ, zero, suc, ◌+◌, ◌-◌, ◌*◌, ◌/◌, ◌<◌, ◌≤◌, ℤ, pos, negsuc, ◌-ℤ◌, nat_lt, Bool, true, false, cond, List, [], ◌∷◌, ◌++◌, map, Option, Some, None, inl, inr, if◌then◌else◌, refl, sym, ap, ◌∙◌, subst, arith}
+use Rattle.std.proofs.Common.{◌≡◌, ℕ, zero, suc, ◌+◌, ◌-◌, ◌*◌, ◌<◌, ℤ, pos, ◌-ℤ◌, Bool, true, false, cond, List, [], ◌∷◌, ◌++◌, map, Option, Some, None, inl, inr, if◌then◌else◌, refl, sym, ap, ◌∙◌, subst, arith}
 use Rattle.std.specs.List.{range_with_len, flat_map}
 use Rattle.std.proofs.lemmas.Int.{ints}
 use Rattle.std.proofs.lemmas.Bool.{cases_Bool}
@@ -7,7 +7,7 @@ use Rattle.geom.specs.declared.layer.Layer.{Layer}
 use Rattle.geom.specs.declared.chip.Label.{Label}
 use Rattle.geom.specs.Squares.{Covered}
 use Rattle.geom.specs.Rows.{Among}
-use Rattle.geom.specs.Conduction.{Spot, Conducts, Joined}
+use Rattle.geom.specs.Conduction.{Spot, Conducts}
 use Rattle.geom.proofs.Lists.{among_cases}
 use Rattle.micro_tiles.specs.declared.device.Transistor.{Transistor}
 use Rattle.micro_tiles.specs.Conducting.{conducts}
@@ -16,18 +16,17 @@ use Rattle.micro_tiles.specs.Table.{boxes, transistor_at}
 use Rattle.micro_tiles.proofs.CoverTests.{conducts_is}
 use Rattle.switch_net.specs.Circuit.{Circuit}
 use Rattle.switch_net.specs.declared.network.Device.{Device}
-use Rattle.switch_net.specs.declared.network.Pad.{Pad}
 use Rattle.nmos_model.specs.Channels.{gate_of, first_of, second_of}
-use Rattle.nmos_model.specs.Devices.{IsDeviceOf, spot_net}
+use Rattle.nmos_model.specs.Devices.{IsDeviceOf}
 use Rattle.nmos_model.specs.Lists.{Matched}
 use Rattle.nmos_model.specs.Nets.{AreNets}
-use Rattle.nmos_model.specs.Networks.{Connects, StandsFor}
+use Rattle.nmos_model.specs.Networks.{StandsFor}
 use Rattle.nmos_model.specs.Pads.{NetAt, ArePads, IsPadOf, AreSound, first_labels, is_named, label_net}
 use Rattle.nmos_model.specs.Refusals.{spot_of}
 use Rattle.stick_grid.specs.Plans.{Plan, IsPlan, Covers, local_x, local_y}
-use Rattle.stick_grid.specs.Pieces.{Piece, IsIn, Connected, HasPieces}
-use Rattle.stick_grid.specs.Transistors.{piece, IsPlaced}
-use Rattle.stick_grid.specs.Names.{AreNames, IsPiece}
+use Rattle.stick_grid.specs.Pieces.{Piece, IsIn, HasPieces}
+use Rattle.stick_grid.specs.Transistors.{piece}
+use Rattle.stick_grid.specs.Names.{AreNames}
 use Rattle.stick_grid.specs.NetMaps.{tile_over}
 use Rattle.stick_grid.specs.Devices.{PlacedTransistor, placed, transistor_in, transistors_in_row, transistors_of, placed_channel, IsNamedDevice}
 use Rattle.stick_grid.specs.Depicted.{IsNamedPad, Depicts, PlansStandForNetworks}

@@ -1,11 +1,9 @@
 -- The tiling of a plan, row by row.
-use Rattle.std.proofs.Common.{◌≡◌, ℕ, zero, suc, ◌+◌, ◌*◌, ◌<◌, List, [], ◌∷◌, ◌++◌, length, get_or, map, refl, sym, ap, ◌∙◌, subst, arith}
+use Rattle.std.proofs.Common.{◌≡◌, ℕ, zero, suc, ◌+◌, ◌*◌, ◌<◌, List, ◌++◌, length, get_or, map, refl, sym, ap, ◌∙◌, subst, arith}
 use Rattle.std.specs.List.{range_with_len, flat_map}
 use Rattle.std.proofs.lemmas.List.{length-append, get_or-append-add, get_or_append_left}
 use Rattle.std.proofs.lemmas.List.FromFn.{length-map-range_with_len, get_or-map-range_with_len}
-use Rattle.micro_tiles.specs.Table.{tile_count}
-use Rattle.stick_grid.specs.Tilings.{Tiling, IsTiling, tile_at, MeetsEast, MeetsSouth}
-use Rattle.stick_grid.specs.Plans.{Plan, IsPlan, plan_of}
+use Rattle.stick_grid.specs.Plans.{Plan, plan_of}
 use Rattle.stick_grid.specs.Windows.{HaveSameTiles, tiling_of, PlansAreTilings}
 use Rattle.stick_grid.proofs.PlanWindows.{same_plan}
 

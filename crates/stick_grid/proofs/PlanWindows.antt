@@ -1,5 +1,5 @@
 -- Parts of plans, and plans with the same tiles.
-use Rattle.std.proofs.Common.{◌≡◌, ◌↔◌, ℕ, zero, suc, ◌+◌, ◌*◌, ◌<◌, ◌≤◌, ℤ, List, [], ◌∷◌, ◌++◌, length, get_or, map, refl, sym, ap, ◌∙◌, subst, arith}
+use Rattle.std.proofs.Common.{◌≡◌, ℕ, zero, suc, ◌+◌, ◌<◌, ℤ, List, ◌++◌, refl, sym, ap, ◌∙◌, subst, arith}
 use Rattle.std.specs.List.{range_with_len, flat_map}
 use Rattle.geom.specs.declared.layer.Layer.{Layer}
 use Rattle.geom.specs.Squares.{Covered}
@@ -12,9 +12,9 @@ use Rattle.stick_grid.specs.Plans.{Plan, IsPlan, Covers, local_x, local_y}
 use Rattle.stick_grid.specs.Pieces.{Piece, MeetsAtEast, MeetsAtSouth, Connected}
 use Rattle.stick_grid.specs.Pieces.Connected.{same, east, west, south, north}
 use Rattle.stick_grid.specs.Names.{IsPiece, AreNames}
-use Rattle.stick_grid.specs.Devices.{PlacedTransistor, placed, transistor_in, transistors_in_row, transistors_of}
+use Rattle.stick_grid.specs.Devices.{placed, transistor_in, transistors_in_row, transistors_of}
 use Rattle.micro_tiles.specs.Table.{transistor_at}
-use Rattle.stick_grid.specs.Windows.{IsWindow, moved_piece, KeepsPlan, WindowsKeepPlans, HaveSameTiles, AgreeInAll, SameTilesAgree}
+use Rattle.stick_grid.specs.Windows.{IsWindow, moved_piece, KeepsPlan, WindowsKeepPlans, HaveSameTiles, SameTilesAgree}
 
 module _ (part whole : Plan) (row col : ℕ) (w : IsWindow part whole row col) where
   -- the tile of the part is the tile of the whole

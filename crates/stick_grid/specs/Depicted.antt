@@ -1,5 +1,5 @@
 -- The network that a plan with labels stands for, by names for the nets of its tiles.
-use Rattle.std.specs.Prelude.{◌≡◌, ◌↔◌, ℕ, ◌-◌, ◌*◌, ◌<◌, ℤ, pos, ◌+ℤ◌, List, []}
+use Rattle.std.specs.Prelude.{◌≡◌, ◌↔◌, ℕ, ◌-◌, ◌*◌, ◌<◌, pos, ◌+ℤ◌, List, []}
 use Rattle.rx_text.specs.declared.pad_name.Role.{Role}
 use Rattle.geom.specs.declared.layer.Layer.{Layer}
 use Rattle.geom.specs.declared.chip.Label.{Label}

@@ -8,6 +8,7 @@ pub mod Names
 pub mod Devices
 pub mod Windows
 pub mod Depicted
+pub mod Modules
 -- Definitions that serve private contracts alone:
 pub mod Drawings
 pub mod PieceGraph

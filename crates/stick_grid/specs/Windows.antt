@@ -1,5 +1,5 @@
 -- Parts of plans, and plans with the same tiles.
-use Rattle.std.specs.Prelude.{◌≡◌, ◌↔◌, ℕ, ◌+◌, ◌*◌, ◌^◌, ◌<◌, ◌≤◌, ℤ, length, map, flat_map}
+use Rattle.std.specs.Prelude.{◌≡◌, ◌↔◌, ℕ, ◌+◌, ◌^◌, ◌<◌, ◌≤◌, ℤ, map, flat_map}
 use Rattle.std.specs.List.{range_with_len}
 use Rattle.geom.specs.declared.layer.Layer.{Layer}
 use Rattle.stick_grid.specs.Tilings.{Tiling, IsTiling}
