@@ -49,5 +49,5 @@ pub record IsModule (plan : Plan) (count : ℕ) (name : Piece → ℕ) (vdd : �
   pub names : AreNames plan count name
   pub drawn : List Device
   pub transistors : Matched (IsNamedDevice name vdd) (transistors_of plan) drawn
-  pub devices : IsPermutation (map ascending drawn) (map ascending devices)
-  pub border : (side : Side) (place : ℕ) (layer : Layer) → place < places_along plan side → net_along plan name side place layer ≡ border side place layer
+  pub as_drawn : IsPermutation (map ascending drawn) (map ascending devices)
+  pub border_is : (side : Side) (place : ℕ) (layer : Layer) → place < places_along plan side → net_along plan name side place layer ≡ border side place layer
