@@ -1,11 +1,11 @@
 -- Lines and outputs of an accepted specification bear names.
-use Rattle.std.proofs.Common.{◌≡◌, ℕ, List, [], ◌∷◌, map, true, refl, sym, ap, subst}
+use Rattle.std.proofs.Common.{◌≡◌, ℕ, List, [], ◌∷◌, map, true, refl, sym, subst}
 use Rattle.std.specs.Prelude.{All}
 use Rattle.std.specs.List.{AllByRecursion}
 use Rattle.std.proofs.lemmas.List.Elements.{All-from_recursion}
 use Rattle.rx_lang.specs.Specification.{Specification}
 use Rattle.rx_text.specs.Name.{is_name}
-use Rattle.rx_syntax.specs.Accepted.{Accepted, said}
+use Rattle.rx_syntax.specs.Accepted.{Accepted}
 use Rattle.rx_syntax.specs.Uses.{word_of}
 use Rattle.rx_syntax.proofs.Bits.{IsPlainName}
 use Rattle.rx_syntax.proofs.NameTokens.{short_word}

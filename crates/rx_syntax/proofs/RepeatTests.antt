@@ -1,5 +1,5 @@
 -- Whether expressions have counted repeats, from the tests of their parts.
-use Rattle.std.proofs.Common.{◌≡◌, All, ◌∙◌, ℕ, zero, suc, ◌+◌, ◌<◌, ◌≤◌, take, add-one, Bool, false, true, ◌||◌, List, [], ◌∷◌, ◌++◌, length, get_or, map, fold, refl, ap, sym, subst, arith}
+use Rattle.std.proofs.Common.{◌≡◌, All, ◌∙◌, ℕ, zero, suc, ◌+◌, ◌<◌, ◌≤◌, take, add-one, Bool, false, true, ◌||◌, List, [], ◌∷◌, ◌++◌, length, get_or, map, refl, ap, sym, subst, arith}
 use Rattle.std.proofs.lemmas.List.{get_or-map, length-map, length-take-le, map-append}
 use Rattle.std.proofs.Math.Seq.{take-suc}
 use Rattle.rx_lang.specs.declared.expr_node.ExprNode.{ExprNode}

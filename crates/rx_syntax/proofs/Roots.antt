@@ -1,5 +1,5 @@
 -- Roots of two kinds of statements, and what is said of them all.
-use Rattle.std.proofs.Common.{ℕ, zero, suc, ◌<◌, List, [], ◌∷◌, ◌++◌, All, arith}
+use Rattle.std.proofs.Common.{ℕ, suc, ◌<◌, List, [], ◌∷◌, ◌++◌, All, arith}
 use Rattle.std.proofs.lemmas.List.Elements.{All-cons}
 
 pub roots_behind : (front roots : List ℕ) (n : ℕ) → All (λ root. root < n) (front ++ roots) → All (λ root. root < n) roots

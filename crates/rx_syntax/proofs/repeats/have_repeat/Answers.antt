@@ -1,4 +1,4 @@
-use Rattle.std.proofs.Common.{◌∙◌, map, sym, ap, take, add-one, subst}
+use Rattle.std.proofs.Common.{◌∙◌, map, sym, ap, add-one}
 use Rattle.std.proofs.lemmas.List.{take_all}
 use Rattle.rx_lang.specs.Tables.{tree_at}
 use Rattle.rx_syntax.specs.Printed.{have_repeat}
