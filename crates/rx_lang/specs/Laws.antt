@@ -1,9 +1,11 @@
 -- Laws of the meaning of expressions, as statements.
-use Rattle.std.specs.Prelude.{◌≡◌, ◌⊎◌, ◌↔◌, ℕ, List, [], ◌++◌}
+use Rattle.std.specs.Prelude.{◌≡◌, ◌⊎◌, ◌↔◌, ℕ, ◌<◌, List, [], ◌++◌, All, Some, slice_get}
 use Rattle.rx_lang.specs.declared.pattern.PatternBit.{PatternBit}
 use Rattle.rx_lang.specs.Vector.{Bits, Matches}
+use Rattle.rx_lang.specs.declared.expr_node.ExprNode.{ExprNode}
 use Rattle.rx_lang.specs.Expression.{Expr, sequence, star, plus, marked}
 use Rattle.rx_lang.specs.Copies.{copied}
+use Rattle.rx_lang.specs.Tables.{children, tree_at, tree_of, trees}
 use Rattle.rx_lang.specs.Meaning.{Cut, Many, Spells, Marks}
 use Rattle.rx_lang.specs.Specification.{Specification, Language}
 
@@ -19,6 +21,11 @@ LanguageIsDecided = (spec : Specification) (y : ℕ) (u : List Bits) → Languag
 pub record ManyJoins {X : Type 0} (P : List X → Type 0) : Type 0 where
   pub front : (v w : List X) → P v → Many P w → Many P (v ++ w)
   pub behind : (v w : List X) → Many P v → Many P w → Many P (v ++ w)
+
+-- The tree of a node is made of the trees of its children, where these stand before it.
+abbrev pub TreesAreMade : Type 0
+TreesAreMade = (nodes : List ExprNode) (k : ℕ) (node : ExprNode) → slice_get nodes k ≡ Some node → All (λ child. child < k) (children node)
+    → tree_at (trees nodes) k ≡ tree_of (trees nodes) node
 
 module _ {X : Type 0} (Is : ℕ → X → Type 0) where
   -- At least once is once and then any number of times.

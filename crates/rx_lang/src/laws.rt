@@ -1,14 +1,13 @@
 //! Laws of the meaning of expressions. Each is the contract of a function that does nothing.
 //! The letters are input vectors under any table of symbols, and the occurrences of symbols.
 
-ghost use Rattle.std.specs.Prelude.{◌≡◌, ℕ, ◌<◌, All, List, Some, slice_get};
+ghost use Rattle.std.specs.Prelude.{◌≡◌, ℕ, List};
 ghost use Rattle.rx_lang.specs.Expression.{Expr};
 ghost use Rattle.rx_lang.specs.Copies.{IsBounded, copied, occurrences};
 ghost use Rattle.rx_lang.specs.Meaning.{Spells};
 ghost use Rattle.rx_lang.specs.Specification.{NamedPattern, MatchesSymbol};
-ghost use Rattle.rx_lang.specs.Tables.{IsSpecification, Tables, children, tree_at, tree_of, trees};
-ghost use Rattle.rx_lang.specs.declared.expr_node.ExprNode.{ExprNode};
-ghost use Rattle.rx_lang.specs.Laws.{CopiesMean, LanguageIsDecided, ManyJoins, MatchingIsDecided, PlusSpells, SequenceMarks, StarMarksEmpty};
+ghost use Rattle.rx_lang.specs.Tables.{IsSpecification, Tables, tree_at, trees};
+ghost use Rattle.rx_lang.specs.Laws.{CopiesMean, LanguageIsDecided, ManyJoins, MatchingIsDecided, PlusSpells, SequenceMarks, StarMarksEmpty, TreesAreMade};
 
 /// A vector matches a pattern or does not.
 pub fn matching_is_decided()
@@ -54,7 +53,6 @@ pub fn copies_mean_their_repeats()
 /// The tree of a node is made of the trees of its children, and where tables are those of a specification, each tree has
 /// counted repeats within their bounds.
 pub fn trees_are_made_of_their_children()
-    ensures made { (nodes : List ExprNode) (k : ℕ) (node : ExprNode) → slice_get nodes k ≡ Some node → All (λ child. child < k) (children node)
-        → tree_at (trees nodes) k ≡ tree_of (trees nodes) node }
+    ensures made { TreesAreMade }
     ensures bounded { (tables : Tables) (k : ℕ) → IsSpecification tables → IsBounded (tree_at (trees tables.nodes) k) }
 {}

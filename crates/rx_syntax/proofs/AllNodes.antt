@@ -20,7 +20,7 @@ use Rattle.rx_syntax.specs.declared.group.Group.{Group}
 use Rattle.rx_syntax.specs.declared.machine.Due.TheVariants.{FirstLine, NextExpr}
 use Rattle.rx_syntax.specs.declared.machine.State.{State}
 use Rattle.rx_syntax.specs.Machine.{at}
-use Rattle.rx_syntax.specs.Builder.{Frame, nothing_built, along}
+use Rattle.rx_syntax.proofs.Builder.{Frame, nothing_built, along}
 use Rattle.rx_syntax.proofs.Derived.{specified_run}
 use Rattle.rx_syntax.proofs.BuiltSyntax.{syntax_built}
 use Rattle.rx_syntax.proofs.OneAnswer.{tokens_unique}

@@ -2,13 +2,13 @@
 use Rattle.std.proofs.Common.{◌≡◌, ℕ, suc, Bool, true, false, Some, None, List, [], ◌∷◌, ◌++◌, refl, ap, ◌∙◌}
 use Rattle.std.specs.Prelude.{Option}
 use Rattle.rx_syntax.specs.Lexemes.{Lexeme}
-use Rattle.rx_syntax.specs.Grammar.{Tree, leaf, union, sequence, star, plus, optional, marked, Level, unions, sequences, parts, Derives, named, closed, starred, repeated, optioned, noted, alone, followed, single, either}
+use Rattle.rx_syntax.specs.Grammar.{Tree, leaf, union, sequence, star, plus, optional, marked, Level, unions, sequences, parts, Derives, named, closed, starred, looped, optioned, noted, alone, followed, single, either}
 use Rattle.rx_syntax.specs.declared.kind.Kind.TheVariants.{Name, Open}
 use Rattle.rx_syntax.specs.declared.machine.Due.{Due}
 use Rattle.rx_syntax.specs.declared.machine.Due.TheVariants.{Part, Rest}
 use Rattle.rx_syntax.specs.declared.machine.State.{State}
 use Rattle.rx_syntax.specs.Machine.{at, next_state, run}
-use Rattle.rx_syntax.specs.Builder.{Frame, Built, empty_frame, joined, chain_of, closed_frame, with_part, act_on, along}
+use Rattle.rx_syntax.proofs.Builder.{Frame, Built, empty_frame, joined, chain_of, closed_frame, with_part, act_on, along}
 use Rattle.rx_syntax.proofs.Derived.{ready, derived_run}
 
 pub along_append : (xs ys : List Lexeme) (s : Option State) (b : Built) → along (xs ++ ys) s b ≡ along ys (run xs s) (along xs s b)
@@ -58,7 +58,7 @@ built (closed {xs = xs} {ys = ys} {e = e} o c ko kc whole inner) bb d b fs = λ 
 built (starred {xs = xs} {ys = ys} {e = e} s k whole inner) bb d b fs = λ f.
     builds ys (s ∷ []) xs (at (ready bb) d) (at Rest d) (framed b (f ∷ fs)) (framed b (with_part (Some e) f ∷ fs))
     (framed b (with_part (Some (star e)) f ∷ fs)) whole (derived_run inner bb d) (built inner bb d b fs f) (rw k refl)
-built (repeated {xs = xs} {ys = ys} {e = e} s k whole inner) bb d b fs = λ f.
+built (looped {xs = xs} {ys = ys} {e = e} s k whole inner) bb d b fs = λ f.
     builds ys (s ∷ []) xs (at (ready bb) d) (at Rest d) (framed b (f ∷ fs)) (framed b (with_part (Some e) f ∷ fs))
     (framed b (with_part (Some (plus e)) f ∷ fs)) whole (derived_run inner bb d) (built inner bb d b fs f) (rw k refl)
 built (optioned {xs = xs} {ys = ys} {e = e} s k whole inner) bb d b fs = λ f.

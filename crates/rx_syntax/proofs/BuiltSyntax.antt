@@ -9,7 +9,7 @@ use Rattle.rx_syntax.specs.declared.kind.Kind.TheVariants.{Name, Line, Symbol, O
 use Rattle.rx_syntax.specs.declared.machine.Due.{Due}
 use Rattle.rx_syntax.specs.declared.machine.Due.TheVariants.{FirstLine, LineName, MoreNames, NextLine, SymbolName, SymbolEquals, SymbolPattern, SymbolEnd, NextSymbol, OutputName, MoreOutputs, NextOutput, Part, Rest, NextExpr}
 use Rattle.rx_syntax.specs.Machine.{at, step, run}
-use Rattle.rx_syntax.specs.Builder.{Frame, Built, nothing_built, empty_frame, closed_frame, with_tree, act, along, syntax_of}
+use Rattle.rx_syntax.proofs.Builder.{Frame, Built, nothing_built, empty_frame, closed_frame, with_tree, act, along, syntax_of}
 use Rattle.rx_syntax.proofs.Derived.{goes, Takes, line_first, line_next, symbol_first, symbol_next, output_first, output_next, expr_first, expr_next, derived_run, line_first_run, output_first_run, line_run, symbol_run, output_run, expr_run, statements_run, lines_run, symbols_run, outputs_run}
 use Rattle.rx_syntax.proofs.Building.{builds, framed, built}
 

@@ -5,7 +5,7 @@ use Rattle.std.proofs.lemmas.Bool.{cases_eq}
 use Rattle.rx_lang.specs.Expression as lang
 use Rattle.rx_lang.specs.Expression.{Expr}
 use Rattle.rx_syntax.specs.Lexemes.{Lexeme}
-use Rattle.rx_syntax.specs.Grammar.{Tree, Level, unions, sequences, parts, Derives, named, closed, starred, repeated, optioned, noted, alone, followed, single, either}
+use Rattle.rx_syntax.specs.Grammar.{Tree, Level, unions, sequences, parts, Derives, named, closed, starred, looped, optioned, noted, alone, followed, single, either}
 use Rattle.rx_syntax.specs.Accepted.{resolve}
 use Rattle.rx_syntax.specs.Printed.{bounds_text}
 use Rattle.rx_syntax.specs.Refusals.{opened, open_after, Clean, none, next}
@@ -71,7 +71,7 @@ balanced (closed {ys = ys} o c ko kc whole inner) d =
     ∙ ap (λ n. opened c.kind n) (balanced inner (suc d)) ∙ ap (λ k. opened k (suc d)) kc
 balanced (starred {ys = ys} s k whole inner) d =
     ap (open_after d) whole ∙ open_append d ys (s ∷ []) ∙ ap (opened s.kind) (balanced inner d) ∙ ap (λ k. opened k d) k
-balanced (repeated {ys = ys} s k whole inner) d =
+balanced (looped {ys = ys} s k whole inner) d =
     ap (open_after d) whole ∙ open_append d ys (s ∷ []) ∙ ap (opened s.kind) (balanced inner d) ∙ ap (λ k. opened k d) k
 balanced (optioned {ys = ys} s k whole inner) d =
     ap (open_after d) whole ∙ open_append d ys (s ∷ []) ∙ ap (opened s.kind) (balanced inner d) ∙ ap (λ k. opened k d) k
@@ -104,7 +104,7 @@ module _ (symbol output : List ℕ → ℕ) (text : List ℕ) where
       omega (arith, cut, deepest_append (suc d) ys (c ∷ []), i, held_most (needs parts (natural (meant e))) (depth (meant e)))
   deep_enough (starred {xs = xs} {ys = ys} {e = e} s k whole inner) d =
       front_deep d (held (needs parts (natural (meant e))) (depth (meant e))) ys (s ∷ []) xs whole (deep_enough inner d)
-  deep_enough (repeated {xs = xs} {ys = ys} {e = e} s k whole inner) d =
+  deep_enough (looped {xs = xs} {ys = ys} {e = e} s k whole inner) d =
       front_deep d (held (needs parts (natural (meant e))) (depth (meant e))) ys (s ∷ []) xs whole (deep_enough inner d)
   deep_enough (optioned {xs = xs} {ys = ys} {e = e} s k whole inner) d =
       front_deep d (held (needs parts (natural (meant e))) (depth (meant e))) ys (s ∷ []) xs whole (deep_enough inner d)

@@ -2,7 +2,7 @@
 use Rattle.std.proofs.Common.{◌≡◌, ℕ, suc, Bool, true, false, None, List, [], ◌∷◌, ◌++◌, refl, ap, sym, ◌∙◌}
 use Rattle.std.specs.Prelude.{Option, ◌≢◌}
 use Rattle.rx_syntax.specs.Lexemes.{Lexeme}
-use Rattle.rx_syntax.specs.Grammar.{Tree, Level, Derives, named, closed, starred, repeated, optioned, noted, alone, followed, single, either, AreNames, NamesOf, SymbolTokens, SymbolOf, ExprOf, Statements, one, more, Lines, LinesSymbols, LinesSymbolsOutputs, Syntax, Specifies}
+use Rattle.rx_syntax.specs.Grammar.{Tree, Level, Derives, named, closed, starred, looped, optioned, noted, alone, followed, single, either, AreNames, NamesOf, SymbolTokens, SymbolOf, ExprOf, Statements, one, more, Lines, LinesSymbols, LinesSymbolsOutputs, Syntax, Specifies}
 use Rattle.rx_syntax.specs.declared.kind.Kind.{Kind}
 use Rattle.rx_syntax.specs.declared.kind.Kind.TheVariants.{Name, Line, Symbol, Output, Expr, Open}
 use Rattle.rx_syntax.specs.declared.machine.Due.{Due}
@@ -39,7 +39,7 @@ derived_run (closed {ys = ys} o c ko kc whole inner) b d =
     ∙ go o (ys ++ (c ∷ [])) (at (ready b) d) (at Part (suc d)) (at Rest d) (opened_step b d o.kind ko)
     (goes ys (c ∷ []) (ys ++ (c ∷ [])) (at Part (suc d)) (at Rest (suc d)) (at Rest d) refl (derived_run inner true (suc d)) (rw kc refl))
 derived_run (starred {xs = xs} {ys = ys} s k whole inner) b d = goes ys (s ∷ []) xs (at (ready b) d) (at Rest d) (at Rest d) whole (derived_run inner b d) (rw k refl)
-derived_run (repeated {xs = xs} {ys = ys} s k whole inner) b d = goes ys (s ∷ []) xs (at (ready b) d) (at Rest d) (at Rest d) whole (derived_run inner b d) (rw k refl)
+derived_run (looped {xs = xs} {ys = ys} s k whole inner) b d = goes ys (s ∷ []) xs (at (ready b) d) (at Rest d) (at Rest d) whole (derived_run inner b d) (rw k refl)
 derived_run (optioned {xs = xs} {ys = ys} s k whole inner) b d = goes ys (s ∷ []) xs (at (ready b) d) (at Rest d) (at Rest d) whole (derived_run inner b d) (rw k refl)
 derived_run (noted {xs = xs} {ys = ys} s {t = t} k n whole inner) b d = goes ys (s ∷ t ∷ []) xs (at (ready b) d) (at Rest d) (at Rest d) whole (derived_run inner b d) (rw (k, n) refl)
 derived_run (alone inner) b d = derived_run inner b d

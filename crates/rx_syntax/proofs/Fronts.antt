@@ -2,7 +2,7 @@
 use Rattle.std.proofs.Common.{◌≡◌, ℕ, zero, suc, List, [], ◌∷◌, ◌++◌, refl, ap, sym, ◌∙◌, subst}
 use Rattle.std.proofs.lemmas.List.{append_assoc, append-nil}
 use Rattle.rx_syntax.specs.Lexemes.{Lexeme}
-use Rattle.rx_syntax.specs.Grammar.{Tree, leaf, union, sequence, unions, sequences, parts, Derives, named, closed, starred, repeated, optioned, noted, alone, followed, single, either}
+use Rattle.rx_syntax.specs.Grammar.{Tree, leaf, union, sequence, unions, sequences, parts, Derives, named, closed, starred, looped, optioned, noted, alone, followed, single, either}
 use Rattle.rx_syntax.specs.declared.kind.Kind.TheVariants.{Name, Bar, Star, Plus, Question, Mark, Open, Close}
 
 -- nothing, or an expression and a bar
@@ -162,7 +162,7 @@ module _ (d : ℕ) (xs : List Lexeme) (t : Lexeme) where
   star_goes_on h k = widened (t ∷ []) h _ (starred t k refl h.is_part)
 
   pub plus_goes_on : RestDue d xs → t.kind ≡ Plus → RestDue d (xs ++ (t ∷ []))
-  plus_goes_on h k = widened (t ∷ []) h _ (repeated t k refl h.is_part)
+  plus_goes_on h k = widened (t ∷ []) h _ (looped t k refl h.is_part)
 
   pub question_goes_on : RestDue d xs → t.kind ≡ Question → RestDue d (xs ++ (t ∷ []))
   question_goes_on h k = widened (t ∷ []) h _ (optioned t k refl h.is_part)

@@ -46,3 +46,4 @@ pub mod NameTokens
 pub mod DeclaredNames
 pub mod Roots
 pub mod RepeatTests
+pub mod Builder

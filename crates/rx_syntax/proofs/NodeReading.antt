@@ -18,7 +18,7 @@ use Rattle.rx_syntax.specs.declared.machine.Due.TheVariants.{FirstLine, Part, Re
 use Rattle.rx_syntax.specs.declared.machine.State.{State}
 use Rattle.rx_syntax.specs.declared.spec_code.SpecCode.{SpecCode}
 use Rattle.rx_syntax.specs.Machine.{at, step, run, next_state, piece_step}
-use Rattle.rx_syntax.specs.Builder.{Built, nothing_built, along, act, act_on}
+use Rattle.rx_syntax.proofs.Builder.{Built, nothing_built, along, act, act_on}
 use Rattle.rx_syntax.proofs.Following.{Followed, begins, lexeme_at, tokens_exist, over_piece, fault_piece}
 use Rattle.rx_syntax.proofs.Moves.{Moves, Moved, moved, run_append}
 use Rattle.rx_syntax.proofs.Building.{along_append}

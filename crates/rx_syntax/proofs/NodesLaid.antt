@@ -9,8 +9,8 @@ use Rattle.rx_syntax.specs.Grammar.{Tree, leaf, star, plus, optional, marked}
 use Rattle.rx_syntax.specs.Uses.{is_among, word_of}
 use Rattle.rx_syntax.specs.Accepted.{number_in}
 use Rattle.rx_syntax.specs.NameTables.{NameTables, names_of}
-use Rattle.rx_syntax.specs.Builder as built
-use Rattle.rx_syntax.specs.Builder.{Frame, Built, empty_frame, closed_frame, act}
+use Rattle.rx_syntax.proofs.Builder as built
+use Rattle.rx_syntax.proofs.Builder.{Frame, Built, empty_frame, closed_frame, act}
 use Rattle.rx_syntax.specs.declared.kind.Kind.{Kind}
 use Rattle.rx_syntax.specs.declared.kind.Kind.TheVariants.{Name, Pattern}
 use Rattle.rx_syntax.specs.declared.machine.Due.{Due}

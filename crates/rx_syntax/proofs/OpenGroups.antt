@@ -14,8 +14,8 @@ use Rattle.rx_syntax.specs.Grammar.{Tree, leaf, union, sequence, star, plus, opt
 use Rattle.rx_syntax.specs.Uses.{word_of}
 use Rattle.rx_syntax.specs.Accepted.{number_in, resolve}
 use Rattle.rx_syntax.specs.NameTables.{names_of}
-use Rattle.rx_syntax.specs.Builder as built
-use Rattle.rx_syntax.specs.Builder.{Frame, chain_of, closed_frame, with_part, with_sign, with_bar, some_tree}
+use Rattle.rx_syntax.proofs.Builder as built
+use Rattle.rx_syntax.proofs.Builder.{Frame, chain_of, closed_frame, with_part, with_sign, with_bar, some_tree}
 use Rattle.rx_syntax.specs.declared.node_table.Join.{Join}
 use Rattle.rx_syntax.specs.declared.node_table.Join.TheVariants.{Sequence, Union}
 use Rattle.rx_syntax.specs.declared.node_table.Sign.{Sign}

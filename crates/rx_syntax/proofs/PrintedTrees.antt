@@ -5,7 +5,7 @@ use Rattle.std.proofs.lemmas.List.{append_assoc, append-nil}
 use Rattle.rx_lang.specs.Expression as lang
 use Rattle.rx_lang.specs.Expression.{Expr}
 use Rattle.rx_syntax.specs.Lexemes.{Lexeme}
-use Rattle.rx_syntax.specs.Grammar.{Tree, leaf, union, sequence, star, plus, optional, marked, Level, unions, sequences, parts, Derives, named, closed, starred, repeated, optioned, noted, alone, followed, single, either}
+use Rattle.rx_syntax.specs.Grammar.{Tree, leaf, union, sequence, star, plus, optional, marked, Level, unions, sequences, parts, Derives, named, closed, starred, looped, optioned, noted, alone, followed, single, either}
 use Rattle.rx_syntax.specs.Accepted.{number_in, resolve}
 use Rattle.rx_syntax.specs.declared.kind.Kind.TheVariants.{Name, Bar, Star, Plus, Question, Mark, Open, Close}
 use Rattle.rx_syntax.proofs.Bits.{Bit, blank, piece, bits_text, tokens_of, bits_append, tokens_append, goes_on, word_read}
@@ -124,7 +124,7 @@ module _ (symbols outputs : List (List ℕ)) (text : List ℕ)
       let sign : List Bit = piece Plus (43 ∷ []) ∷ [] in
       let r = level_reads parts (natural f) (expr_bits symbols outputs f) f (expr_reads f h) place (bits_text sign ++ rest) (stand_front text place xs sign rest stands) in
       let at = place + length (bits_text xs) in
-      record { tree = plus r.tree; derives = repeated (record { kind = Plus; start = at; behind = at + 1 }) refl (tokens_append place xs sign) r.derives; means = ap lang.plus r.means }
+      record { tree = plus r.tree; derives = looped (record { kind = Plus; start = at; behind = at + 1 }) refl (tokens_append place xs sign) r.derives; means = ap lang.plus r.means }
   expr_reads (lang.optional f) h place rest stands =
       let xs = enclosed_bits (needs parts (natural f)) (expr_bits symbols outputs f) in
       let sign : List Bit = piece Question (63 ∷ []) ∷ [] in

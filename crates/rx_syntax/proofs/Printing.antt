@@ -5,18 +5,18 @@ use Rattle.rx_lang.specs.declared.expr_node.ExprNode.{ExprNode}
 use Rattle.rx_lang.specs.Expression.{sequence, union}
 use Rattle.rx_lang.specs.Tables.{Tables, IsSpecification, NamesEntries, children, tree_of, trees}
 use Rattle.rx_lang.specs.VectorWords.{node_tree}
-use Rattle.rx_lang.proofs.NodeTrees.{node_made}
+use Rattle.rx_lang.specs.Laws.{TreesAreMade}
 use Rattle.rx_syntax.specs.declared.print.Piece.{Piece}
 use Rattle.rx_syntax.specs.declared.print.Piece.TheVariants.{Close, Enclosed, Node, Or, Then}
 use Rattle.rx_syntax.specs.Printed.{enclosed, is_compound, is_union}
 use Rattle.rx_syntax.specs.Pieces.{ArePieces, IsPiece, Puts, count_of, counts_of, node_text, piece_text, tree_pieces, waiting_text}
 
 -- the tree of a node, made of its children's trees
-pub tree_read : (tables : Tables) → IsSpecification tables → (nodes : List ExprNode) → nodes ≡ tables.nodes → (k : ℕ) (d : ExprNode)
+pub tree_read : TreesAreMade → (tables : Tables) → IsSpecification tables → (nodes : List ExprNode) → nodes ≡ tables.nodes → (k : ℕ) (d : ExprNode)
     → k < length tables.nodes → node_tree tables k ≡ tree_of (trees tables.nodes) (get_or nodes k d)
-tree_read tables is nodes same k d lt =
+tree_read made tables is nodes same k d lt =
     let found : slice_get tables.nodes k ≡ Some (get_or tables.nodes k d) = slice_get-get_or tables.nodes k d lt in
-    node_made tables.nodes k (get_or tables.nodes k d) found (is.children_before k (get_or tables.nodes k d) found)
+    made tables.nodes k (get_or tables.nodes k d) found (is.children_before k (get_or tables.nodes k d) found)
     ∙ ap (λ ns. tree_of (trees tables.nodes) (get_or ns k d)) (sym same)
 
 module _ (tables : Tables) where
@@ -59,8 +59,8 @@ module _ (tables : Tables) (is : IsSpecification tables) (nodes : List ExprNode)
   at_node : get_or tables.nodes k d ≡ node
   at_node = ap (λ ns. get_or ns k d) (sym same) ∙ read
 
-  pub tree_is : node_tree tables k ≡ tree_of (trees tables.nodes) node
-  tree_is = tree_read tables is nodes same k d lt ∙ ap (tree_of (trees tables.nodes)) read
+  pub tree_is : TreesAreMade → node_tree tables k ≡ tree_of (trees tables.nodes) node
+  tree_is made = tree_read made tables is nodes same k d lt ∙ ap (tree_of (trees tables.nodes)) read
 
   pub children_in : All (λ child. child < length tables.nodes) (children node)
   children_in i e within =

@@ -3,7 +3,7 @@ use Rattle.std.proofs.Common.{◌≡◌, ℕ, suc, Bool, true, false, List, [], 
 use Rattle.std.specs.Prelude.{Option, ◌≢◌}
 use Rattle.std.proofs.lemmas.List.{append_assoc, append-nil}
 use Rattle.rx_syntax.specs.Lexemes.{Lexeme}
-use Rattle.rx_syntax.specs.Grammar.{Tree, Level, Derives, named, closed, starred, repeated, optioned, noted, alone, followed, single, either, AreNames, NamesOf, SymbolTokens, SymbolOf, ExprOf, Statements, one, more, Syntax, Specifies}
+use Rattle.rx_syntax.specs.Grammar.{Tree, Level, Derives, named, closed, starred, looped, optioned, noted, alone, followed, single, either, AreNames, NamesOf, SymbolTokens, SymbolOf, ExprOf, Statements, one, more, Syntax, Specifies}
 use Rattle.rx_syntax.specs.Uses.{Use, line_use, symbol_use, pattern_use, output_use, mark_use, leaf_use, tree_uses, line_uses, symbol_uses, output_uses, expr_uses, syntax_uses}
 use Rattle.rx_syntax.specs.UsesRead.{use_of, use_on, uses_along}
 use Rattle.rx_syntax.specs.declared.kind.Kind.{Kind}
@@ -57,7 +57,7 @@ tree_used (closed {ys = ys} {e = e} o c ko kc whole inner) bb d =
     ∙ append-nil (tree_uses e)
 tree_used (starred {xs = xs} {ys = ys} {e = e} s k whole inner) bb d =
     signed_used ys xs s bb d (tree_uses e) whole (derived_run inner bb d) (tree_used inner bb d) (uses_go s [] Rest d Star k)
-tree_used (repeated {xs = xs} {ys = ys} {e = e} s k whole inner) bb d =
+tree_used (looped {xs = xs} {ys = ys} {e = e} s k whole inner) bb d =
     signed_used ys xs s bb d (tree_uses e) whole (derived_run inner bb d) (tree_used inner bb d) (uses_go s [] Rest d Plus k)
 tree_used (optioned {xs = xs} {ys = ys} {e = e} s k whole inner) bb d =
     signed_used ys xs s bb d (tree_uses e) whole (derived_run inner bb d) (tree_used inner bb d) (uses_go s [] Rest d Question k)

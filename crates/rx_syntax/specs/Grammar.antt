@@ -26,7 +26,7 @@ pub data Derives : Level → List Lexeme → Tree → Type 0 where
   closed : {xs ys : List Lexeme} {e : Tree} (o c : Lexeme) → o.kind ≡ Open → c.kind ≡ Close → xs ≡ o ∷ (ys ++ (c ∷ []))
       → Derives unions ys e → Derives parts xs e
   starred : {xs ys : List Lexeme} {e : Tree} (s : Lexeme) → s.kind ≡ Star → xs ≡ ys ++ (s ∷ []) → Derives parts ys e → Derives parts xs (star e)
-  repeated : {xs ys : List Lexeme} {e : Tree} (s : Lexeme) → s.kind ≡ Plus → xs ≡ ys ++ (s ∷ []) → Derives parts ys e → Derives parts xs (plus e)
+  looped : {xs ys : List Lexeme} {e : Tree} (s : Lexeme) → s.kind ≡ Plus → xs ≡ ys ++ (s ∷ []) → Derives parts ys e → Derives parts xs (plus e)
   optioned : {xs ys : List Lexeme} {e : Tree} (s : Lexeme) → s.kind ≡ Question → xs ≡ ys ++ (s ∷ []) → Derives parts ys e
       → Derives parts xs (optional e)
   noted : {xs ys : List Lexeme} {e : Tree} (s : Lexeme) {t : Lexeme} → s.kind ≡ Mark → t.kind ≡ Name → xs ≡ ys ++ (s ∷ t ∷ [])

@@ -1,18 +1,19 @@
+-- Definitions that public contracts cite:
 pub mod Tokens
-pub mod Printed
-pub mod Pieces
-pub mod PrintExamples
 pub mod Lexemes
 pub mod Grammar
 pub mod Refusals
-pub mod Machine
 pub mod Uses
 pub mod Accepted
 pub mod SpecRefusal
-pub mod Builder
-pub mod NodeBuilder
-pub mod NodeTables
+pub mod Printed
+pub mod PrintExamples
+-- Definitions that serve private contracts alone:
+pub mod Machine
 pub mod UsesRead
 pub mod NameTables
 pub mod NameReading
 pub mod NameSteps
+pub mod NodeBuilder
+pub mod NodeTables
+pub mod Pieces

@@ -11,6 +11,7 @@ ghost use Rattle.rx_syntax.specs.declared.print.Piece.TheVariants.{Enclosed, Nod
 
 use crate::no_memory::NoMemory;
 use crate::repeats::needs_version_2;
+use rx_lang::laws::trees_are_made_of_their_children;
 use rx_lang::{ExprNode, PatternBit, Spec, Symbol};
 use rx_text::{Name, NumberText};
 use std::alloc::Global;
@@ -188,6 +189,7 @@ fn put_node(
     requires { node < length spec.now.nodes }
     ensures { OnOk result (Puts spec.now (Node node) text.old.items text.new.items stack.old.items stack.new.items) }
 {
+    trees_are_made_of_their_children();
     match spec.nodes()[node as usize] {
         ExprNode::Leaf(symbol) => {
             let declared = &spec.symbols()[symbol as usize];
@@ -249,6 +251,7 @@ fn is_union(spec: &Spec, node: u32) -> bool
     requires { node < length spec.now.nodes }
     ensures { result ≡ is_union (node_tree spec.now node) }
 {
+    trees_are_made_of_their_children();
     is_union_node(spec.nodes()[node as usize])
 }
 
@@ -256,6 +259,7 @@ fn is_compound(spec: &Spec, node: u32) -> bool
     requires { node < length spec.now.nodes }
     ensures { result ≡ is_compound (node_tree spec.now node) }
 {
+    trees_are_made_of_their_children();
     is_compound_node(spec.nodes()[node as usize])
 }
 

@@ -8,4 +8,4 @@ use Rattle.rx_syntax.proofs.print.is_compound.Goals as goal
 pub returns : goal.returns
 returns c =
     c.is_compound_node.ensures (trees c.args.spec.now.nodes)
-    ∙ ap is_compound (sym (tree_read c.args.spec.now c.nodes.ensures.specification c.nodes.result.now c.nodes.ensures.nodes c.args.node (Leaf 0) c.requires))
+    ∙ ap is_compound (sym (tree_read c.trees_are_made_of_their_children.ensures.made c.args.spec.now c.nodes.ensures.specification c.nodes.result.now c.nodes.ensures.nodes c.args.node (Leaf 0) c.requires))

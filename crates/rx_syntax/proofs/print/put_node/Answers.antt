@@ -40,7 +40,7 @@ put_signed-requires-in-Mark c =
 pub returns-in_ok-extend_from_slice-in-Leaf : goal.returns-in_ok-extend_from_slice-in-Leaf
 returns-in_ok-extend_from_slice-in-Leaf c =
     let tree : node_tree c.args.spec.now c.args.node ≡ symbol c.in-Leaf.symbol
-    = tree_is c.args.spec.now c.nodes.ensures.specification c.nodes.result.now c.nodes.ensures.nodes c.args.node (Leaf 0) (Leaf c.in-Leaf.symbol) c.requires c.in-Leaf.is in
+    = tree_is c.args.spec.now c.nodes.ensures.specification c.nodes.result.now c.nodes.ensures.nodes c.args.node (Leaf 0) (Leaf c.in-Leaf.symbol) c.requires c.in-Leaf.is c.trees_are_made_of_their_children.ensures.made in
     let within : c.in-Leaf.symbol < length c.args.spec.now.symbols
     = names_in c.args.spec.now c.nodes.ensures.specification c.nodes.result.now c.nodes.ensures.nodes c.args.node (Leaf 0) (Leaf c.in-Leaf.symbol) c.requires c.in-Leaf.is in
     let name : node_text c.args.spec.now c.args.node ≡ c.as_bytes.result.now
@@ -66,7 +66,7 @@ returns-in_ok-push-in-Seq-3 c =
       c.is_compound.ensures,
     )
     (puts_sequence c.args.spec.now c.args.node c.args.text.now.items c.args.stack.now.items c.in-Seq.first c.in-Seq.second
-    (tree_is c.args.spec.now c.nodes.ensures.specification c.nodes.result.now c.nodes.ensures.nodes c.args.node (Leaf 0) (Seq c.in-Seq.first c.in-Seq.second) c.requires c.in-Seq.is)
+    (tree_is c.args.spec.now c.nodes.ensures.specification c.nodes.result.now c.nodes.ensures.nodes c.args.node (Leaf 0) (Seq c.in-Seq.first c.in-Seq.second) c.requires c.in-Seq.is c.trees_are_made_of_their_children.ensures.made)
     (children_in c.args.spec.now c.nodes.ensures.specification c.nodes.result.now c.nodes.ensures.nodes c.args.node (Leaf 0) (Seq c.in-Seq.first c.in-Seq.second) c.requires c.in-Seq.is 0 0 (omega arith))
     (children_in c.args.spec.now c.nodes.ensures.specification c.nodes.result.now c.nodes.ensures.nodes c.args.node (Leaf 0) (Seq c.in-Seq.first c.in-Seq.second) c.requires c.in-Seq.is 1 0 (omega arith)))
 
@@ -80,14 +80,14 @@ returns-in_ok-push-in-Alt-3 c =
       c.is_union-in-Alt.ensures,
     )
     (puts_union c.args.spec.now c.args.node c.args.text.now.items c.args.stack.now.items c.in-Alt.one c.in-Alt.other
-    (tree_is c.args.spec.now c.nodes.ensures.specification c.nodes.result.now c.nodes.ensures.nodes c.args.node (Leaf 0) (Alt c.in-Alt.one c.in-Alt.other) c.requires c.in-Alt.is)
+    (tree_is c.args.spec.now c.nodes.ensures.specification c.nodes.result.now c.nodes.ensures.nodes c.args.node (Leaf 0) (Alt c.in-Alt.one c.in-Alt.other) c.requires c.in-Alt.is c.trees_are_made_of_their_children.ensures.made)
     (children_in c.args.spec.now c.nodes.ensures.specification c.nodes.result.now c.nodes.ensures.nodes c.args.node (Leaf 0) (Alt c.in-Alt.one c.in-Alt.other) c.requires c.in-Alt.is 0 0 (omega arith))
     (children_in c.args.spec.now c.nodes.ensures.specification c.nodes.result.now c.nodes.ensures.nodes c.args.node (Leaf 0) (Alt c.in-Alt.one c.in-Alt.other) c.requires c.in-Alt.is 1 0 (omega arith)))
 
 pub returns-in_ok-put_signed-in-Star : goal.returns-in_ok-put_signed-in-Star
 returns-in_ok-put_signed-in-Star c =
     let tree : node_tree c.args.spec.now c.args.node ≡ star (node_tree c.args.spec.now c.in-Star.inner)
-    = tree_is c.args.spec.now c.nodes.ensures.specification c.nodes.result.now c.nodes.ensures.nodes c.args.node (Leaf 0) (Star c.in-Star.inner) c.requires c.in-Star.is in
+    = tree_is c.args.spec.now c.nodes.ensures.specification c.nodes.result.now c.nodes.ensures.nodes c.args.node (Leaf 0) (Star c.in-Star.inner) c.requires c.in-Star.is c.trees_are_made_of_their_children.ensures.made in
     rw c.in_ok-put_signed-in-Star.ensures
     (puts_signed c.args.spec.now c.args.node c.args.text.now.items c.args.stack.now.items c.in-Star.inner Pieces.Star
     (ap (expr_text (map (λ s. s.name) c.args.spec.now.symbols) c.args.spec.now.outputs) tree) (ap tree_pieces tree) refl tt
@@ -96,7 +96,7 @@ returns-in_ok-put_signed-in-Star c =
 pub returns-in_ok-put_signed-in-Plus : goal.returns-in_ok-put_signed-in-Plus
 returns-in_ok-put_signed-in-Plus c =
     let tree : node_tree c.args.spec.now c.args.node ≡ plus (node_tree c.args.spec.now c.in-Plus.inner)
-    = tree_is c.args.spec.now c.nodes.ensures.specification c.nodes.result.now c.nodes.ensures.nodes c.args.node (Leaf 0) (Plus c.in-Plus.inner) c.requires c.in-Plus.is in
+    = tree_is c.args.spec.now c.nodes.ensures.specification c.nodes.result.now c.nodes.ensures.nodes c.args.node (Leaf 0) (Plus c.in-Plus.inner) c.requires c.in-Plus.is c.trees_are_made_of_their_children.ensures.made in
     rw c.in_ok-put_signed-in-Plus.ensures
     (puts_signed c.args.spec.now c.args.node c.args.text.now.items c.args.stack.now.items c.in-Plus.inner Pieces.Plus
     (ap (expr_text (map (λ s. s.name) c.args.spec.now.symbols) c.args.spec.now.outputs) tree) (ap tree_pieces tree) refl tt
@@ -105,7 +105,7 @@ returns-in_ok-put_signed-in-Plus c =
 pub returns-in_ok-put_signed-in-Opt : goal.returns-in_ok-put_signed-in-Opt
 returns-in_ok-put_signed-in-Opt c =
     let tree : node_tree c.args.spec.now c.args.node ≡ optional (node_tree c.args.spec.now c.in-Opt.inner)
-    = tree_is c.args.spec.now c.nodes.ensures.specification c.nodes.result.now c.nodes.ensures.nodes c.args.node (Leaf 0) (Opt c.in-Opt.inner) c.requires c.in-Opt.is in
+    = tree_is c.args.spec.now c.nodes.ensures.specification c.nodes.result.now c.nodes.ensures.nodes c.args.node (Leaf 0) (Opt c.in-Opt.inner) c.requires c.in-Opt.is c.trees_are_made_of_their_children.ensures.made in
     rw c.in_ok-put_signed-in-Opt.ensures
     (puts_signed c.args.spec.now c.args.node c.args.text.now.items c.args.stack.now.items c.in-Opt.inner Pieces.Optional
     (ap (expr_text (map (λ s. s.name) c.args.spec.now.symbols) c.args.spec.now.outputs) tree) (ap tree_pieces tree) refl tt
@@ -114,7 +114,7 @@ returns-in_ok-put_signed-in-Opt c =
 pub returns-in_ok-put_signed-in-Mark : goal.returns-in_ok-put_signed-in-Mark
 returns-in_ok-put_signed-in-Mark c =
     let tree : node_tree c.args.spec.now c.args.node ≡ marked (node_tree c.args.spec.now c.in-Mark.inner) c.in-Mark.output
-    = tree_is c.args.spec.now c.nodes.ensures.specification c.nodes.result.now c.nodes.ensures.nodes c.args.node (Leaf 0) (Mark c.in-Mark.inner c.in-Mark.output) c.requires c.in-Mark.is in
+    = tree_is c.args.spec.now c.nodes.ensures.specification c.nodes.result.now c.nodes.ensures.nodes c.args.node (Leaf 0) (Mark c.in-Mark.inner c.in-Mark.output) c.requires c.in-Mark.is c.trees_are_made_of_their_children.ensures.made in
     rw c.in_ok-put_signed-in-Mark.ensures
     (puts_signed c.args.spec.now c.args.node c.args.text.now.items c.args.stack.now.items c.in-Mark.inner (Pieces.Mark c.in-Mark.output)
     (ap (expr_text (map (λ s. s.name) c.args.spec.now.symbols) c.args.spec.now.outputs) tree) (ap tree_pieces tree) refl (names_in c.args.spec.now c.nodes.ensures.specification c.nodes.result.now c.nodes.ensures.nodes c.args.node (Leaf 0) (Mark c.in-Mark.inner c.in-Mark.output) c.requires c.in-Mark.is)
@@ -129,7 +129,7 @@ pub returns-in_ok-put_signed-in-Repeat : goal.returns-in_ok-put_signed-in-Repeat
 returns-in_ok-put_signed-in-Repeat c =
     let tree : node_tree c.args.spec.now c.args.node ≡ repeated (node_tree c.args.spec.now c.in-Repeat.inner) c.in-Repeat.least c.in-Repeat.most
     = tree_is c.args.spec.now c.nodes.ensures.specification c.nodes.result.now c.nodes.ensures.nodes c.args.node (Leaf 0)
-    (Repeat c.in-Repeat.inner c.in-Repeat.least c.in-Repeat.most) c.requires c.in-Repeat.is in
+    (Repeat c.in-Repeat.inner c.in-Repeat.least c.in-Repeat.most) c.requires c.in-Repeat.is c.trees_are_made_of_their_children.ensures.made in
     rw c.in_ok-put_signed-in-Repeat.ensures
     (puts_signed c.args.spec.now c.args.node c.args.text.now.items c.args.stack.now.items c.in-Repeat.inner (Pieces.Bounds c.in-Repeat.least c.in-Repeat.most)
     (ap (expr_text (map (λ s. s.name) c.args.spec.now.symbols) c.args.spec.now.outputs) tree) (ap tree_pieces tree) refl tt
