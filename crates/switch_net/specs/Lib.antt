@@ -1,3 +1,4 @@
+-- Definitions that public contracts cite:
 pub mod Circuit
 pub mod Settling
 pub mod Clock
@@ -10,6 +11,7 @@ pub mod SameNetworks
 pub mod Ternary
 pub mod TernaryLogic
 pub mod NameKeys
-pub mod SeenPads
 pub mod LeastLevels
 pub mod SameRuns
+-- Definitions that serve private contracts alone:
+pub mod SeenPads

@@ -2,7 +2,8 @@
 use Rattle.std.proofs.Common.{◌≡◌, ℕ, zero, suc, ◌+◌, ◌-◌, ◌<◌, ◌≤◌, Bool, List, [], ◌∷◌, ◌++◌, length, get_or, take, drop, refl, sym, ap, ◌∙◌, subst, arith, length-append, length-drop}
 use Rattle.std.proofs.lemmas.List.{take_all, take-append-le, drop-append-le, drop-drop}
 use Rattle.std.proofs.Math.ListN.{drop_of_length-le}
-use Rattle.switch_sim.specs.TraceCuts.{cut, AreEnds, start_from}
+use Rattle.switch_sim.specs.TraceCuts.{cut, AreEnds}
+use Rattle.switch_sim.specs.TraceReading.{start_from}
 
 pub length_cut : (from : ℕ) (ends : List ℕ) (bits : List Bool) → length (cut from ends bits) ≡ length ends
 length_cut from [] bits = refl

@@ -1,7 +1,7 @@
 pub mod Gains
 pub mod Marked
 pub mod Spreads
-pub mod Queues
+pub mod WaitingNets
 pub mod Chains
 pub mod Fixed
 pub mod Pulled

@@ -11,14 +11,15 @@ use Rattle.switch_net.specs.declared.network.Device.TheVariants.{Pass, Load}
 use Rattle.switch_net.specs.declared.network.Level.{Level}
 use Rattle.switch_net.specs.declared.network.Level.TheVariants.{High}
 use Rattle.switch_sim.specs.declared.marks.Marks.{Marks}
-use Rattle.switch_sim.specs.Marking.{Mark, has, carries, loads, loaded, own_marks, joined, IsOpen, Led, no_marks, marks_at, fixed_at, level_at, AreMarked}
-use Rattle.switch_sim.specs.Marking.Mark.{sure_low, sure_high, may_low, may_high, not_low, not_high}
+use Rattle.switch_sim.specs.Marking.{GroupMark, has, carries, loads, loaded, own_marks, joined, IsOpen, Led, no_marks, marks_at, fixed_at, AreMarked}
+use Rattle.switch_sim.specs.Simulation.{level_at}
+use Rattle.switch_sim.specs.Marking.GroupMark.{sure_low, sure_high, may_low, may_high, not_low, not_high}
 use Rattle.switch_sim.specs.Marking.Led.{here, load, step}
 use Rattle.switch_sim.specs.Spreading.{led, spread, TakesNothing, IsAtRest, AreJust}
 
 -- ---- the marks one by one
 
-has_joined : (mark : Mark) (m o : Marks) (g : Level) → has mark (joined m o g) ≡ (has mark m || (carries mark g && has mark o))
+has_joined : (mark : GroupMark) (m o : Marks) (g : Level) → has mark (joined m o g) ≡ (has mark m || (carries mark g && has mark o))
 has_joined sure_low m o g = refl
 has_joined sure_high m o g = refl
 has_joined may_low m o g = refl
@@ -26,7 +27,7 @@ has_joined may_high m o g = refl
 has_joined not_low m o g = refl
 has_joined not_high m o g = refl
 
-has_loaded : (mark : Mark) → (has mark loaded ≡ loads mark) × (carries mark High ≡ true)
+has_loaded : (mark : GroupMark) → (has mark loaded ≡ loads mark) × (carries mark High ≡ true)
 has_loaded sure_low = (refl, refl)
 has_loaded sure_high = (refl, refl)
 has_loaded may_low = (refl, refl)
@@ -69,11 +70,11 @@ module _ (fixed : List (Option Bool)) (net : ℕ) (o : Marks) (g : Level) (marks
       (get_or-set_same marks net _ no_marks lt)
 
   -- the mark of a net came from another
-  abbrev Took : Mark → ℕ → Type 0
+  abbrev Took : GroupMark → ℕ → Type 0
   Took mark m = (m ≡ net) × (fixed_at fixed net ≡ None) × (carries mark g ≡ true) × (has mark o ≡ true)
 
   -- what a net bears then, it bore or took
-  led_back : net < length marks → (mark : Mark) (m : ℕ) → has mark (marks_at (led fixed net o g marks) m) ≡ true
+  led_back : net < length marks → (mark : GroupMark) (m : ℕ) → has mark (marks_at (led fixed net o g marks) m) ≡ true
       → (has mark (marks_at marks m) ≡ true) ⊎ Took mark m
   led_back lt mark m =
       by_pad (λ l. has mark (marks_at l m) ≡ true → (has mark (marks_at marks m) ≡ true) ⊎ Took mark m) (λ h. inl h)
@@ -91,7 +92,7 @@ module _ (fixed : List (Option Bool)) (net : ℕ) (o : Marks) (g : Level) (marks
       taken free (inr other) h = inl (sym (ap (has mark) (get_or-set_other marks net m _ no_marks other)) ∙ h)
 
   -- what a net bore, it bears then
-  led_keeps : net < length marks → (mark : Mark) (m : ℕ) → has mark (marks_at marks m) ≡ true → has mark (marks_at (led fixed net o g marks) m) ≡ true
+  led_keeps : net < length marks → (mark : GroupMark) (m : ℕ) → has mark (marks_at marks m) ≡ true → has mark (marks_at (led fixed net o g marks) m) ≡ true
   led_keeps lt mark m h = by_pad (λ l. has mark (marks_at l m) ≡ true) h (λ free. kept (cases_eq m net))
     where
       kept : (m ≡ net) ⊎ (m ≡ net → ⊥) → has mark (marks_at (set marks net (joined (marks_at marks net) o g)) m) ≡ true
@@ -101,7 +102,7 @@ module _ (fixed : List (Option Bool)) (net : ℕ) (o : Marks) (g : Level) (marks
       kept (inr other) = ap (has mark) (get_or-set_other marks net m _ no_marks other) ∙ h
 
   -- a net that takes nothing bears what is carried to it
-  led_rest : fixed_at fixed net ≡ None → TakesNothing fixed marks net o g → (mark : Mark) → carries mark g ≡ true → has mark o ≡ true
+  led_rest : fixed_at fixed net ≡ None → TakesNothing fixed marks net o g → (mark : GroupMark) → carries mark g ≡ true → has mark o ≡ true
       → has mark (marks_at marks net) ≡ true
   led_rest free rest mark open' borne =
       carried_comes _ _ _ _ (sym (ap (has mark) (rest free)) ∙ has_joined mark (marks_at marks net) o g) open' borne
@@ -109,14 +110,14 @@ module _ (fixed : List (Option Bool)) (net : ℕ) (o : Marks) (g : Level) (marks
 -- ---- looks at devices
 
 module _ (nets : ℕ) (devices : List Device) (fixed : List (Option Bool)) (charges levels : List Level) where
-  abbrev LedTo : Mark → ℕ → Type 0
+  abbrev LedTo : GroupMark → ℕ → Type 0
   LedTo mark net = Led nets devices (fixed_at fixed) (level_at charges) (level_at levels) mark net
 
   abbrev Just : List Marks → Type 0
   Just marks = AreJust nets devices fixed charges levels marks
 
   just_led : (marks : List Marks) → (net : ℕ) (o : Marks) (g : Level) → net < nets
-      → ((mark : Mark) → IsOpen nets (fixed_at fixed) net → carries mark g ≡ true → has mark o ≡ true → LedTo mark net)
+      → ((mark : GroupMark) → IsOpen nets (fixed_at fixed) net → carries mark g ≡ true → has mark o ≡ true → LedTo mark net)
       → Just marks → Just (led fixed net o g marks)
   just_led marks net o g lt from just = record {
     size = led_size fixed net o g marks ∙ just.size;
@@ -127,12 +128,12 @@ module _ (nets : ℕ) (devices : List Device) (fixed : List (Option Bool)) (char
       within : net < length marks
       within = subst (λ n. net < n) (sym just.size) lt
 
-      by : (mark : Mark) (m : ℕ) → m < nets → (has mark (marks_at marks m) ≡ true) ⊎ Took fixed net o g marks mark m → LedTo mark m
+      by : (mark : GroupMark) (m : ℕ) → m < nets → (has mark (marks_at marks m) ≡ true) ⊎ Took fixed net o g marks mark m → LedTo mark m
       by mark m below (inl old) = just.sound mark m below old
       by mark m below (inr new) = subst (LedTo mark) (sym new.0) (from mark (lt, new.1) new.2 new.3)
 
   just_of : (d : Device) → NamesBelow nets d
-      → ((mark : Mark) (a b : ℕ) → Joins (d ∷ []) (λ net. carries mark (level_at levels net)) a b → Joins devices (λ net. carries mark (level_at levels net)) a b)
+      → ((mark : GroupMark) (a b : ℕ) → Joins (d ∷ []) (λ net. carries mark (level_at levels net)) a b → Joins devices (λ net. carries mark (level_at levels net)) a b)
       → ((a : ℕ) → HasLoad (d ∷ []) a → HasLoad devices a)
       → (marks : List Marks) → Just marks → Just (spread fixed levels d marks)
   just_of (Load net) below joins loads marks just =
@@ -165,7 +166,7 @@ module _ (nets : ℕ) (devices : List Device) (fixed : List (Option Bool)) (char
     rest_of_load (Load at ∷ ds) rest net (inl e) = subst (λ k. TakesNothing fixed marks k loaded High) e rest.0
     rest_of_load (Load at ∷ ds) rest net (inr h) = rest_of_load ds rest.1 net h
 
-    rest_of_pass : (ds : List Device) → AllByRecursion (IsAtRest fixed levels marks) ds → (mark : Mark) (a b : ℕ)
+    rest_of_pass : (ds : List Device) → AllByRecursion (IsAtRest fixed levels marks) ds → (mark : GroupMark) (a b : ℕ)
         → Joins ds (λ net. carries mark (level_at levels net)) a b
         → (g : Level) × (carries mark g ≡ true) × TakesNothing fixed marks a (marks_at marks b) g
     rest_of_pass [] rest mark a b h = absurd h
@@ -184,7 +185,7 @@ module _ (nets : ℕ) (devices : List Device) (fixed : List (Option Bool)) (char
           (subst (λ k. TakesNothing fixed marks y.0 (marks_at marks k) (level_at levels gate.0)) eb rest.0.1),
     )
 
-    borne : AllByRecursion (IsAtRest fixed levels marks) devices → (mark : Mark) (net : ℕ) → LedTo mark net → has mark (marks_at marks net) ≡ true
+    borne : AllByRecursion (IsAtRest fixed levels marks) devices → (mark : GroupMark) (net : ℕ) → LedTo mark net → has mark (marks_at marks net) ≡ true
     borne rest mark _ (here net lt own) = just.owned mark net lt own
     borne rest mark _ (load net free h e) =
         led_rest fixed net loaded High marks free.1 (rest_of_load devices rest net h) mark (has_loaded mark).1 ((has_loaded mark).0 ∙ e)

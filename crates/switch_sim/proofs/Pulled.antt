@@ -12,7 +12,7 @@ use Rattle.switch_net.specs.declared.network.Pad.{Pad}
 use Rattle.switch_net.specs.declared.network.Device.{Device}
 use Rattle.switch_net.specs.declared.network.Device.TheVariants.{Pass, Load}
 use Rattle.switch_net.specs.declared.network.Level.{Level}
-use Rattle.switch_sim.specs.Marking.{Mark, has, carries, loads, own_marks, Led}
+use Rattle.switch_sim.specs.Marking.{GroupMark, has, carries, loads, own_marks, Led}
 use Rattle.switch_sim.specs.Marking.Led.{here, load, step}
 
 -- a fixed net is one of the network's
@@ -28,14 +28,14 @@ fixed_below nets (pad ∷ pads) (drive ∷ drives) net level below e =
     by (inr other) later = later (rw (ne_eqb pad.net.0 net other) at e)
 
 module _ (circuit : Circuit) (drives : List Bool) (q v : Levels) where
-  abbrev pub LedTo : Mark → ℕ → Type 0
+  abbrev pub LedTo : GroupMark → ℕ → Type 0
   LedTo mark net = Led circuit.nets circuit.devices (fixed_level circuit.pads drives) q v mark net
 
-  abbrev own : Mark → ℕ → Bool
+  abbrev own : GroupMark → ℕ → Bool
   own mark net = has mark (own_marks (fixed_level circuit.pads drives net) (q net))
 
   -- the devices that carry the mark conduct
-  abbrev pub conducting : Mark → Values
+  abbrev pub conducting : GroupMark → Values
   conducting mark net = carries mark (v net)
 
   -- the nets of the group of a free net are free
@@ -43,7 +43,7 @@ module _ (circuit : Circuit) (drives : List Bool) (q v : Levels) where
   group_free w _ _ free (alone a) = free
   group_free w _ _ free (further a b c j f r) = group_free w b c f r
 
-  module _ (mark : Mark) where
+  module _ (mark : GroupMark) where
     grouped_led : (a m : ℕ) → Grouped circuit drives (conducting mark) a m → IsFree circuit drives a → (IsFree circuit drives m → LedTo mark m) → LedTo mark a
     grouped_led _ _ (alone a) free k = k free
     grouped_led _ _ (further a b c j f r) free k = step a b free j (grouped_led b c r f k)
@@ -110,7 +110,7 @@ module _ (circuit : Circuit) (drives : List Bool) (q v : Levels) where
     led_of_odd net m free g e = grouped_led net m g free (λ f. here m f.0 e)
 
   -- ---- more marks
-  module _ (one other : Mark) (by_own : (net : ℕ) → own one net ≡ true → own other net ≡ true) (by_load : loads one ≡ true → loads other ≡ true)
+  module _ (one other : GroupMark) (by_own : (net : ℕ) → own one net ≡ true → own other net ≡ true) (by_load : loads one ≡ true → loads other ≡ true)
       (by_gate : (g : Level) → carries one g ≡ true → carries other g ≡ true) where
     more_joins : (ds : List Device) (a b : ℕ) → Joins ds (conducting one) a b → Joins ds (conducting other) a b
     more_joins [] a b h = h

@@ -8,7 +8,7 @@ use Rattle.switch_net.specs.Circuit.{Circuit}
 use Rattle.switch_net.specs.Ternary.{Levels, nothing_known, ClockLevels, ClocksLevels}
 use Rattle.switch_net.specs.Validity.{IsNetwork}
 use Rattle.switch_net.specs.declared.network.Level.{Level}
-use Rattle.switch_sim.specs.Marking.{level_at}
+use Rattle.switch_sim.specs.Simulation.{level_at}
 use Rattle.switch_sim.specs.TraceLines.{clock_line, lines_from, TraceLines, GainsLines, GainsFront}
 use Rattle.switch_net.specs.LeastLevels.{ClocksLevelsExist, RunLevelsExist}
 

@@ -9,12 +9,13 @@ use Rattle.switch_net.specs.declared.network.Net.{Net}
 use Rattle.switch_net.specs.declared.network.Level.{Level}
 use Rattle.switch_net.specs.declared.network.Level.TheVariants.{High}
 use Rattle.switch_sim.specs.declared.marks.Marks.{Marks}
-use Rattle.switch_sim.specs.Marking.{loaded, joined, no_marks, marks_at, level_at}
+use Rattle.switch_sim.specs.Marking.{loaded, joined, no_marks, marks_at}
+use Rattle.switch_sim.specs.Simulation.{level_at}
 use Rattle.switch_sim.specs.Incidence.{EndsAt, IsLeastAbove}
 use Rattle.switch_sim.specs.Spreading.{TakesNothing, IsAtRest, RestsOrWaits, Spreads}
 use Rattle.switch_sim.specs.Waiting.{Waits}
 use Rattle.switch_sim.proofs.Gains.{set_fewer}
-use Rattle.switch_sim.proofs.Queues.{waits_more}
+use Rattle.switch_sim.proofs.WaitingNets.{waits_more}
 
 -- nothing spreads where nothing changes
 pub still : (marks : List Marks) (waiting : List ℕ) → Spreads marks waiting marks waiting

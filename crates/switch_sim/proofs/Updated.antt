@@ -8,8 +8,8 @@ use Rattle.switch_net.specs.Validity.{IsNetwork}
 use Rattle.switch_net.specs.declared.network.Level.{Level}
 use Rattle.switch_net.specs.declared.network.Level.TheVariants.{Low, High, Unknown}
 use Rattle.switch_sim.specs.declared.marks.Marks.{Marks}
-use Rattle.switch_sim.specs.Marking.{Mark, has, is_low, carries, own_marks, marked_level, marks_at, AreMarked}
-use Rattle.switch_sim.specs.Marking.Mark.{sure_low, sure_high, may_low, may_high, not_low, not_high}
+use Rattle.switch_sim.specs.Marking.{GroupMark, has, is_low, carries, own_marks, marked_level, marks_at, AreMarked}
+use Rattle.switch_sim.specs.Marking.GroupMark.{sure_low, sure_high, may_low, may_high, not_low, not_high}
 use Rattle.switch_sim.proofs.Pulled.{LedTo, pulled_of_led, led_of_source, led_of_load, odd_of_led, led_of_odd, more_led, group_free}
 
 -- ---- what a net has by itself
@@ -112,13 +112,13 @@ module _ (circuit : Circuit) (valid : IsNetwork circuit) (drives : List Bool) (q
   abbrev f : ℕ → Option Bool
   f = fixed_level circuit.pads drives
 
-  bears : (mark : Mark) → LedTo circuit drives q v mark net → has mark m ≡ true
+  bears : (mark : GroupMark) → LedTo circuit drives q v mark net → has mark m ≡ true
   bears mark led = (marked mark net free.0).1 led
 
-  lacks : (mark : Mark) → (LedTo circuit drives q v mark net → ⊥) → has mark m ≡ false
+  lacks : (mark : GroupMark) → (LedTo circuit drives q v mark net → ⊥) → has mark m ≡ false
   lacks mark none = is_false (has mark m) (λ h. none ((marked mark net free.0).0 h))
 
-  led_by : (mark : Mark) → has mark m ≡ true → LedTo circuit drives q v mark net
+  led_by : (mark : GroupMark) → has mark m ≡ true → LedTo circuit drives q v mark net
   led_by mark h = (marked mark net free.0).0 h
 
   -- ---- pulled low

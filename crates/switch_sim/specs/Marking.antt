@@ -9,16 +9,16 @@ use Rattle.switch_sim.specs.declared.marks.Marks.{Marks}
 
 -- A net is pulled low or high for sure, or it may be, or a net of its possible group held another charge than low or
 -- than high.
-pub data Mark : Type 0 where
-  sure_low : Mark
-  sure_high : Mark
-  may_low : Mark
-  may_high : Mark
-  not_low : Mark
-  not_high : Mark
+pub data GroupMark : Type 0 where
+  sure_low : GroupMark
+  sure_high : GroupMark
+  may_low : GroupMark
+  may_high : GroupMark
+  not_low : GroupMark
+  not_high : GroupMark
 
 -- the net bears the mark
-abbrev pub has : Mark → Marks → Bool
+abbrev pub has : GroupMark → Marks → Bool
 has sure_low marks = marks.sure_low
 has sure_high marks = marks.sure_high
 has may_low marks = marks.may_low
@@ -27,7 +27,7 @@ has not_low marks = marks.not_low
 has not_high marks = marks.not_high
 
 -- a device whose gate has this level carries the mark
-abbrev pub carries : Mark → Level → Bool
+abbrev pub carries : GroupMark → Level → Bool
 carries sure_low gate = is_high gate
 carries sure_high gate = is_high gate
 carries may_low gate = may_be_high gate
@@ -36,7 +36,7 @@ carries not_low gate = may_be_high gate
 carries not_high gate = may_be_high gate
 
 -- a load gives the mark
-abbrev pub loads : Mark → Bool
+abbrev pub loads : GroupMark → Bool
 loads sure_low = false
 loads sure_high = true
 loads may_low = false
@@ -107,7 +107,7 @@ abbrev pub IsOpen : ℕ → (ℕ → Option Bool) → ℕ → Type 0
 IsOpen nets fixed net = (net < nets) × (fixed net ≡ None)
 
 -- Devices that carry the mark lead from the net through open nets to one that has it by itself or by its load.
-pub data Led (nets : ℕ) (devices : List Device) (fixed : ℕ → Option Bool) (q v : Levels) (mark : Mark) : ℕ → Type 0 where
+pub data Led (nets : ℕ) (devices : List Device) (fixed : ℕ → Option Bool) (q v : Levels) (mark : GroupMark) : ℕ → Type 0 where
   here : (net : ℕ) → net < nets → has mark (own_marks (fixed net) (q net)) ≡ true → Led nets devices fixed q v mark net
   load : (net : ℕ) → IsOpen nets fixed net → HasLoad devices net → loads mark ≡ true → Led nets devices fixed q v mark net
   step : (a b : ℕ) → IsOpen nets fixed a → Joins devices (λ net. carries mark (v net)) a b → Led nets devices fixed q v mark b
@@ -132,11 +132,7 @@ marks_at marks net = slice_index_or marks net no_marks
 abbrev pub fixed_at : List (Option Bool) → ℕ → Option Bool
 fixed_at fixed net = slice_index_or fixed net None
 
--- the level of the net
-abbrev pub level_at : List Level → Levels
-level_at levels net = slice_index_or levels net Unknown
-
 -- The nets bear exactly the marks that they are led to.
 abbrev pub AreMarked : ℕ → List Device → (ℕ → Option Bool) → Levels → Levels → List Marks → Type 0
 AreMarked nets devices fixed q v marks =
-    (mark : Mark) (net : ℕ) → net < nets → (has mark (marks_at marks net) ≡ true) ↔ Led nets devices fixed q v mark net
+    (mark : GroupMark) (net : ℕ) → net < nets → (has mark (marks_at marks net) ≡ true) ↔ Led nets devices fixed q v mark net

@@ -1,14 +1,8 @@
--- A simulation as contracts see it.
+-- What a simulation keeps.
 use Rattle.std.specs.Prelude.{◌≡◌, Bool, List, length}
 use Rattle.switch_net.specs.Circuit.{Circuit}
-use Rattle.switch_net.specs.declared.network.Level.{Level}
 use Rattle.switch_sim.specs.declared.settling.Nets.{Nets}
 use Rattle.switch_sim.specs.Updating.{IsSized}
-
--- the network, and the levels of its nets
-pub record Simulation : Type 0 where
-  pub circuit : Circuit
-  pub levels : List Level
 
 -- the parts are those of the network, and there is a drive for each pad
 pub record IsSimulation (circuit : Circuit) (nets : Nets) (drive : List Bool) : Type 0 where

@@ -7,7 +7,8 @@ use Rattle.switch_net.specs.declared.network.Level.{Level}
 use Rattle.switch_net.specs.declared.network.Level.TheVariants.{High}
 use Rattle.switch_sim.specs.declared.marks.Marks.{Marks}
 use Rattle.switch_sim.specs.Incidence.{EndsAt}
-use Rattle.switch_sim.specs.Marking.{Mark, has, loaded, own_marks, joined, Led, marks_at, fixed_at, level_at}
+use Rattle.switch_sim.specs.Marking.{GroupMark, has, loaded, own_marks, joined, Led, marks_at, fixed_at}
+use Rattle.switch_sim.specs.Simulation.{level_at}
 use Rattle.switch_sim.specs.Waiting.{Waits}
 
 -- the marks when the net, unless a pad fixes it, took those of another over a device whose gate has this level
@@ -65,9 +66,9 @@ pub record Spreads (marks : List Marks) (waiting : List ℕ) (marks_new : List M
 pub record AreJust (nets : ℕ) (devices : List Device) (fixed : List (Option Bool)) (charges levels : List Level)
     (marks : List Marks) : Type 0 where
   pub size : length marks ≡ nets
-  pub sound : (mark : Mark) (net : ℕ) → net < nets → has mark (marks_at marks net) ≡ true
+  pub sound : (mark : GroupMark) (net : ℕ) → net < nets → has mark (marks_at marks net) ≡ true
       → Led nets devices (fixed_at fixed) (level_at charges) (level_at levels) mark net
-  pub owned : (mark : Mark) (net : ℕ) → net < nets → has mark (own_marks (fixed_at fixed net) (level_at charges net)) ≡ true
+  pub owned : (mark : GroupMark) (net : ℕ) → net < nets → has mark (own_marks (fixed_at fixed net) (level_at charges net)) ≡ true
       → has mark (marks_at marks net) ≡ true
 
 -- marks that are just stay so

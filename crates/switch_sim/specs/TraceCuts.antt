@@ -1,5 +1,5 @@
 -- The vectors of a trace, whose bits stand in one list and whose ends in another.
-use Rattle.std.specs.Prelude.{◌≡◌, ℕ, zero, suc, ◌+◌, ◌-◌, ◌≤◌, Bool, List, [], ◌∷◌, ◌++◌, length, take, drop}
+use Rattle.std.specs.Prelude.{◌≡◌, ℕ, ◌+◌, ◌-◌, ◌≤◌, Bool, List, [], ◌∷◌, ◌++◌, length, take, drop}
 
 -- the bits are cut at these ends, where so many stand before them
 abbrev pub cut : ℕ → List ℕ → List Bool → List (List Bool)
@@ -11,19 +11,7 @@ abbrev pub AreEnds : ℕ → List ℕ → List Bool → Type 0
 AreEnds from [] bits = bits ≡ []
 AreEnds from (end ∷ ends) bits = (from ≤ end) × (end ≤ from + length bits) × AreEnds end ends (drop (end - from) bits)
 
--- where the vector of this number begins
-abbrev pub start_from : ℕ → List ℕ → ℕ → ℕ
-start_from from ends zero = from
-start_from from [] (suc at) = from
-start_from from (end ∷ ends) (suc at) = start_from end ends at
-
 -- the two lists are those of a trace
 pub record IsKept (ends : List ℕ) (bits : List Bool) : Type 0 where
   pub cuts : AreEnds 0 ends bits
   pub few : length ends ≤ 10000
-
--- one more vector
-pub record TakesVector (ends : List ℕ) (bits : List Bool) (ends_new : List ℕ) (bits_new vector : List Bool) : Type 0 where
-  pub cuts : AreEnds 0 ends_new bits_new
-  pub vectors : cut 0 ends_new bits_new ≡ cut 0 ends bits ++ vector ∷ []
-  pub count : length ends_new ≡ length ends + 1

@@ -1,5 +1,5 @@
 -- The text of a trace, and the first fault of a text that does not begin with one.
-use Rattle.std.specs.Prelude.{◌≡◌, ◌≢◌, ℕ, ◌+◌, ◌≤◌, ◌==◌, ◌||◌, nat_le, nat_lt, Bool, true, false, if◌then◌else◌, List, [], ◌∷◌, ◌++◌, map, take, length, All, Option, Some, None}
+use Rattle.std.specs.Prelude.{◌≡◌, ◌≢◌, ℕ, ◌+◌, ◌≤◌, ◌==◌, ◌||◌, nat_le, nat_lt, Bool, true, false, if◌then◌else◌, List, [], ◌∷◌, ◌++◌, map, take, length, All, Option, Some, None, ⊤}
 use Rattle.std.specs.List.{flat_map, prefix_len}
 use Rattle.std.specs.Option.{option_or}
 use Rattle.std.specs.Str.{bytes_eq}
@@ -8,6 +8,8 @@ use Rattle.rx_text.specs.declared.place.Place.{Place}
 use Rattle.switch_sim.specs.declared.trace_code.TraceCode.{TraceCode}
 use Rattle.switch_sim.specs.declared.trace_code.TraceCode.TheVariants.{V1, V3, V4}
 use Rattle.switch_sim.specs.declared.trace_code.TraceSpot.{TraceSpot}
+use Rattle.switch_sim.specs.declared.trace_code.ReadTraceFault.{ReadTraceFault}
+use Rattle.switch_sim.specs.declared.trace_code.ReadTraceFault.TheVariants.{Fault, NoMemory}
 
 -- the byte of a bit
 abbrev pub bit_byte : Bool → ℕ
@@ -94,3 +96,8 @@ trace_fault text = first_fault 0 0 (lines_of text)
 -- The text is refused with this code at this place, those of its first fault.
 abbrev pub TraceRefusal : List ℕ → TraceCode → Place → Type 0
 TraceRefusal text code place = (spot : TraceSpot) × (trace_fault text ≡ Some spot) × (code ≡ spot.code) × (place ≡ place_behind (take spot.at text))
+
+-- The fault is that of the text, or want of memory.
+abbrev pub IsRefused : List ℕ → ReadTraceFault → Type 0
+IsRefused text NoMemory = ⊤
+IsRefused text (Fault fault) = TraceRefusal text fault.code fault.place

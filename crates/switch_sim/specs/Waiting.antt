@@ -7,12 +7,12 @@ Waits [] net = ⊥
 Waits (first ∷ nets) net = (first ≡ net) ⊎ Waits nets net
 
 -- how many nets there are, and those that wait
-pub record Queue : Type 0 where
+pub record WaitingNets : Type 0 where
   pub size : ℕ
   pub nets : List ℕ
 
 -- So many nets at the front of the list wait. Each flagged net is one of them, and there are no more than flags.
-pub record IsQueue (count : ℕ) (nets : List ℕ) (flags : List Bool) : Type 0 where
+pub record IsWaiting (count : ℕ) (nets : List ℕ) (flags : List Bool) : Type 0 where
   pub size : length nets ≡ length flags
   pub room : count ≤ count_by (λ flag. flag) flags
   pub below : (i : ℕ) → i < count → slice_index_or nets i 0 < length flags

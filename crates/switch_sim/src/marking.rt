@@ -3,7 +3,8 @@
 ghost use Rattle.std.specs.Prelude.{◌≡◌, ◌⊎◌, ℕ, ◌<◌, length, All};
 ghost use Rattle.switch_net.specs.ClockedLogic.{NamesBelow};
 ghost use Rattle.switch_sim.specs.Incidence.{EndsAt, IsIncidence};
-ghost use Rattle.switch_sim.specs.Marking.{own_marks, fixed_at, level_at, marks_at, AreMarked};
+ghost use Rattle.switch_sim.specs.Marking.{own_marks, fixed_at, marks_at, AreMarked};
+ghost use Rattle.switch_sim.specs.Simulation.{level_at};
 ghost use Rattle.switch_sim.specs.Spreading.{led, spread, TakesNothing, RestsOrWaits, Spreads, StayJust};
 ghost use Rattle.switch_sim.specs.Waiting.{Waits};
 

@@ -5,7 +5,7 @@ ghost use Rattle.std.specs.Fmt.{decimal};
 ghost use Rattle.std.specs.Io.KnownBytes.{Appends};
 ghost use Rattle.rx_io.specs.Causes.{Rose};
 ghost use Rattle.rx_io.specs.Streams.{AppendsFront};
-ghost use Rattle.switch_sim.specs.Marking.{level_at};
+ghost use Rattle.switch_sim.specs.Simulation.{level_at};
 ghost use Rattle.switch_sim.specs.TraceLines.{GainsLines, GainsFront, clock_line, first_wrong, named_wrong, input_count, is_input, level_byte, output_bytes, pad_byte};
 
 use crate::no_memory::NoMemory;

@@ -5,7 +5,8 @@ ghost use Rattle.switch_net.specs.Settling.{pad_level, fixed_level};
 ghost use Rattle.switch_net.specs.Ternary.{StartsUnknown, SettledLevels};
 ghost use Rattle.switch_net.specs.Validity.{AreDistinct, IsNetwork};
 ghost use Rattle.switch_sim.specs.Incidence.{IsIncidence};
-ghost use Rattle.switch_sim.specs.Marking.{fixed_at, level_at, marks_at};
+ghost use Rattle.switch_sim.specs.Marking.{fixed_at, marks_at};
+ghost use Rattle.switch_sim.specs.Simulation.{level_at};
 ghost use Rattle.switch_sim.specs.Updating.{AreFixed, first_level, next_level, IsSized};
 
 use crate::incidence::Incidence;

@@ -4,7 +4,7 @@ ghost use Rattle.std.specs.Prelude.{◌≡◌, ℕ, ◌<◌, length, IfOk, repli
 ghost use Rattle.switch_net.specs.Clock.{drives_of};
 ghost use Rattle.switch_net.specs.Ternary.{SettledLevels, ClockLevels};
 ghost use Rattle.switch_net.specs.declared.network.Level.TheVariants as level;
-ghost use Rattle.switch_sim.specs.Marking.{level_at};
+ghost use Rattle.switch_sim.specs.Simulation.{level_at};
 
 use crate::drive::Drive;
 use crate::incidence::Incidence;
@@ -26,7 +26,8 @@ pub struct Sim<'a> {
 }
 
 impl<'a> Model for Sim<'a> {
-    ghost use Rattle.switch_sim.specs.Simulating.{Simulation, IsSimulation};
+    ghost use Rattle.switch_sim.specs.Simulating.{IsSimulation};
+    ghost use Rattle.switch_sim.specs.Simulation.{Simulation};
 
     ghost Value = { Simulation };
 

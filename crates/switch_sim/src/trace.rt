@@ -4,8 +4,11 @@ ghost use Rattle.std.specs.Prelude.{◌≡◌, ◌<◌, ◌≤◌, ◌+◌, ◌-
 ghost use Rattle.std.specs.List.{prefix_len};
 ghost use Rattle.rx_text.specs.TextPlace.{is_line_feed, place_behind};
 ghost use Rattle.switch_sim.specs.TraceTexts.{IsTrace, is_bit, is_chip, line_fault, no_chip, lines_of, first_fault, trace_fault};
-ghost use Rattle.switch_sim.specs.TraceCuts.{cut, AreEnds, TakesVector, start_from};
-ghost use Rattle.switch_sim.specs.TraceReading.{bits_in, LineAt, ended_line, IsRefused, not_line_feed};
+ghost use Rattle.switch_sim.specs.TraceCuts.{cut, AreEnds};
+ghost use Rattle.switch_sim.specs.TraceReading.{start_from};
+ghost use Rattle.switch_sim.specs.TraceReading.{TakesVector};
+ghost use Rattle.switch_sim.specs.TraceReading.{bits_in, LineAt, ended_line, not_line_feed};
+ghost use Rattle.switch_sim.specs.TraceTexts.{IsRefused};
 
 use crate::no_memory::NoMemory;
 use crate::trace_code::{ReadTraceFault, TraceCode, TraceFault, TraceSpot};
@@ -19,11 +22,14 @@ const MOST_VECTORS: usize = 10_000;
 /// The line behind which the chip begins.
 const CHIP: &[u8] = b"chip";
 
-/// The vectors that drive the input pads, one for each clock: at most 10,000.
+/// The vectors that drive the input pads, one for each clock: at most 10,000. A vector's bits are those of `bits` from the end of the
+/// vector before it, or from 0, up to its own entry of `ends`. The ends never fall, and the last is the number of `bits`.
 #[derive(Drop)]
 pub struct Trace {
-    bits: Vec<bool>,
-    ends: Vec<usize>,
+    /// The bits of all vectors, one vector after another.
+    pub bits: Vec<bool>,
+    /// For each vector the number of bits up to its end.
+    pub ends: Vec<usize>,
 }
 
 impl Model for Trace {

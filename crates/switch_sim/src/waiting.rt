@@ -18,13 +18,13 @@ pub(crate) struct Waiting {
 
 impl Model for Waiting {
     ghost use Rattle.std.specs.Prelude.{length, take};
-    ghost use Rattle.switch_sim.specs.Waiting.{Queue, IsQueue};
+    ghost use Rattle.switch_sim.specs.Waiting.{WaitingNets, IsWaiting};
 
-    ghost Value = { Queue };
+    ghost Value = { WaitingNets };
 
     ghost view = { λ w. record { size = length w.flags.items; nets = take w.count w.nets.items } };
 
-    ghost invariant = { λ w. IsQueue w.count w.nets.items w.flags.items };
+    ghost invariant = { λ w. IsWaiting w.count w.nets.items w.flags.items };
 }
 
 impl Waiting {

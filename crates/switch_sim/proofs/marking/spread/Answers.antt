@@ -2,7 +2,8 @@ use Rattle.std.proofs.Common.{◌≡◌, ◌<◌, ◌⊎◌, get_or, length, ari
 use Rattle.std.proofs.lemmas.List.{get_or_default}
 use Rattle.switch_net.specs.declared.network.Level.{Level}
 use Rattle.switch_net.specs.declared.network.Level.TheVariants.{Low, Unknown}
-use Rattle.switch_sim.specs.Marking.{marks_at, level_at}
+use Rattle.switch_sim.specs.Marking.{marks_at}
+use Rattle.switch_sim.specs.Simulation.{level_at}
 use Rattle.switch_sim.specs.Spreading.{TakesNothing}
 use Rattle.switch_sim.specs.Waiting.{Waits}
 use Rattle.switch_sim.proofs.Spreads.{rests_after}

@@ -1,5 +1,5 @@
 use Rattle.std.proofs.Common.{◌≡◌, ◌++◌, take}
-use Rattle.switch_sim.specs.Marking.{level_at}
+use Rattle.switch_sim.specs.Simulation.{level_at}
 use Rattle.switch_sim.specs.TraceLines.{output_bytes}
 use Rattle.switch_sim.proofs.run.push_outputs.Given as goal
 

@@ -7,8 +7,8 @@ use Rattle.switch_net.specs.Ternary.{Levels, nothing_known, ClockLevels}
 use Rattle.switch_net.specs.declared.network.Level.TheVariants.{Unknown}
 use Rattle.std.specs.Io.KnownBytes.{Appends}
 use Rattle.rx_io.specs.Streams.{AppendsFront}
-use Rattle.switch_sim.specs.Marking.{level_at}
-use Rattle.switch_sim.specs.Simulating.{Simulation}
+use Rattle.switch_sim.specs.Simulation.{level_at}
+use Rattle.switch_sim.specs.Simulation.{Simulation}
 use Rattle.switch_sim.specs.TraceLines.{clock_line, GainsLines}
 use Rattle.switch_sim.proofs.Runs.{none_gained, first_failed, later_failed, shown_first, shown_more, shown_all}
 use Rattle.switch_sim.proofs.run.run_trace.Goals as goal

@@ -2,7 +2,7 @@ use Rattle.std.proofs.Common.{◌≡◌, suc, ◌-◌, ◌∙◌, length, subst,
 use Rattle.std.specs.Prelude.{All}
 use Rattle.switch_net.specs.ClockedLogic.{NamesBelow}
 use Rattle.switch_net.specs.Ternary.{SettledLevels, AfterUpdates, Updates}
-use Rattle.switch_sim.specs.Marking.{level_at}
+use Rattle.switch_sim.specs.Simulation.{level_at}
 use Rattle.switch_sim.proofs.Iterates.{one_more, repeats}
 use Rattle.switch_sim.proofs.settling.iterate.Goals as goal
 

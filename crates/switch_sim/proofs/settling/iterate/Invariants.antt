@@ -1,6 +1,6 @@
 use Rattle.std.proofs.Common.{◌≡◌, Bool, List}
 use Rattle.switch_net.specs.Ternary.{StartsUnknown, AfterUpdates}
-use Rattle.switch_sim.specs.Marking.{level_at}
+use Rattle.switch_sim.specs.Simulation.{level_at}
 use Rattle.switch_sim.specs.Updating.{AreFixed}
 use Rattle.switch_sim.proofs.settling.iterate.Given as goal
 

@@ -5,7 +5,8 @@ use Rattle.std.specs.Vec.{with_items}
 use Rattle.switch_net.specs.Settling.{fixed_level}
 use Rattle.switch_net.specs.Ternary.{StartsUnknown, SettledLevels}
 use Rattle.switch_net.specs.Validity.{AreDistinct}
-use Rattle.switch_sim.specs.Marking.{fixed_at, level_at}
+use Rattle.switch_sim.specs.Marking.{fixed_at}
+use Rattle.switch_sim.specs.Simulation.{level_at}
 use Rattle.switch_sim.specs.Updating.{AreFixed, first_level}
 use Rattle.switch_sim.proofs.Iterates.{starts}
 use Rattle.switch_sim.proofs.settling.settle.Goals as goal

@@ -2,7 +2,8 @@ use Rattle.std.proofs.Common.{◌≡◌, ℕ, ◌<◌, ◌≢◌, ◌||◌, Bool
 use Rattle.std.proofs.lemmas.List.{set-get_or, get_or_default}
 use Rattle.switch_net.specs.declared.network.Level.TheVariants.{Low, Unknown}
 use Rattle.switch_net.specs.declared.network.Level.{Level}
-use Rattle.switch_sim.specs.Marking.{fixed_at, marks_at, level_at}
+use Rattle.switch_sim.specs.Marking.{fixed_at, marks_at}
+use Rattle.switch_sim.specs.Simulation.{level_at}
 use Rattle.switch_sim.specs.Updating.{next_level}
 use Rattle.switch_sim.proofs.settling.update.Goals as goal
 

@@ -1,5 +1,6 @@
 use Rattle.std.proofs.Common.{◌≡◌, ℕ, ◌<◌, false, ◌≤◌}
-use Rattle.switch_sim.specs.Marking.{fixed_at, level_at, marks_at}
+use Rattle.switch_sim.specs.Marking.{fixed_at, marks_at}
+use Rattle.switch_sim.specs.Simulation.{level_at}
 use Rattle.switch_sim.specs.Updating.{next_level}
 use Rattle.switch_sim.proofs.settling.update.Given as goal
 

@@ -1,6 +1,7 @@
 use Rattle.std.proofs.Common.{◌≡◌, ◌+◌, ◌++◌, ◌∷◌, [], ℕ, List, Bool, Result, Ok, Err, length, ap, ◌∙◌, subst, sym, arith, length-append}
 use Rattle.std.specs.Prelude.{OnOk}
-use Rattle.switch_sim.specs.TraceCuts.{cut, AreEnds, TakesVector}
+use Rattle.switch_sim.specs.TraceCuts.{cut, AreEnds}
+use Rattle.switch_sim.specs.TraceReading.{TakesVector}
 use Rattle.switch_sim.proofs.Cuts.{ends_more, cut_more}
 use Rattle.switch_sim.proofs.trace.push_vector.Goals as goal
 

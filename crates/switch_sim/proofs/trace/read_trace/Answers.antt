@@ -1,6 +1,7 @@
 use Rattle.std.proofs.Common.{◌≡◌, ◌+◌, ℕ, List, length, drop, take, sym, ap, ◌∙◌, subst, arith, length-drop}
 use Rattle.std.proofs.lemmas.List.{drop-drop}
-use Rattle.switch_sim.specs.TraceCuts.{cut, TakesVector}
+use Rattle.switch_sim.specs.TraceCuts.{cut}
+use Rattle.switch_sim.specs.TraceReading.{TakesVector}
 use Rattle.switch_sim.specs.TraceTexts.{first_fault, lines_of}
 use Rattle.switch_sim.specs.TraceReading.{bits_in, LineAt, IsVectorLine}
 use Rattle.switch_sim.specs.declared.trace.Line.{Line}

@@ -1,5 +1,5 @@
 use Rattle.std.proofs.Common.{◌≡◌, ◌-◌, sym, ap, ◌∙◌, arith, take, drop, get_or}
-use Rattle.switch_sim.specs.TraceCuts.{start_from}
+use Rattle.switch_sim.specs.TraceReading.{start_from}
 use Rattle.switch_sim.proofs.Cuts.{within, cut_at}
 use Rattle.switch_sim.proofs.trace.slice_between.Goals as goal
 

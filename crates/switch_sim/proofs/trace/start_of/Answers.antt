@@ -1,5 +1,5 @@
 use Rattle.std.proofs.Common.{◌≡◌, suc, ◌-◌, ◌<◌, sym, ap, ◌∙◌, arith, length}
-use Rattle.switch_sim.specs.TraceCuts.{start_from}
+use Rattle.switch_sim.specs.TraceReading.{start_from}
 use Rattle.switch_sim.proofs.Cuts.{start_is}
 use Rattle.switch_sim.proofs.trace.start_of.Goals as goal
 

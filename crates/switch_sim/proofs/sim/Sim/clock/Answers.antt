@@ -2,7 +2,7 @@ use Rattle.std.proofs.Common.{◌≡◌, refl, ◌∙◌, subst}
 use Rattle.switch_net.specs.Circuit.{Circuit}
 use Rattle.switch_net.specs.Clock.{Drive, drives_of}
 use Rattle.switch_net.specs.Ternary.{Levels, SettledLevels}
-use Rattle.switch_sim.specs.Marking.{level_at}
+use Rattle.switch_sim.specs.Simulation.{level_at}
 use Rattle.switch_sim.proofs.sim.Sim.clock.Goals as goal
 
 -- the same settling, said of an equal circuit and of equal drives

@@ -1,7 +1,7 @@
 use Rattle.std.proofs.Common.{rules, arith, ◌≡◌, ◌<◌, false, length, get_or, sym, ap, subst, ◌∙◌}
 use Rattle.std.proofs.lemmas.List.{get_or_default}
 use Rattle.switch_sim.specs.Waiting.{Waits}
-use Rattle.switch_sim.proofs.Queues.{has_room, longer, added, waits_before, waits_last}
+use Rattle.switch_sim.proofs.WaitingNets.{has_room, longer, added, waits_before, waits_last}
 use Rattle.switch_sim.proofs.waiting.Waiting.add.Goals as goal
 
 -- src/waiting.rt:56:13

@@ -1,7 +1,7 @@
 use Rattle.std.proofs.Common.{◌≡◌, ◌<◌, ◌+◌, ◌-◌, length, arith, ◌∙◌}
 use Rattle.std.proofs.lemmas.List.{get_or_default}
 use Rattle.std.proofs.lemmas.List.Sums.{count_by-le-length}
-use Rattle.switch_sim.proofs.Queues.{popped}
+use Rattle.switch_sim.proofs.WaitingNets.{popped}
 use Rattle.switch_sim.proofs.waiting.Waiting.pop.Goals as goal
 
 -- src/waiting.rt:62:5

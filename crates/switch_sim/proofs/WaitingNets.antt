@@ -5,7 +5,7 @@ use Rattle.std.proofs.lemmas.Bool.{cases_eq}
 use Rattle.std.proofs.lemmas.List.{take_more, take_more_set}
 use Rattle.std.proofs.lemmas.List.Sums.{sum_by-set, count_by-le-length}
 use Rattle.std.specs.Prelude.{count_by}
-use Rattle.switch_sim.specs.Waiting.{Waits, IsQueue}
+use Rattle.switch_sim.specs.Waiting.{Waits, IsWaiting}
 
 pub waits_more : (xs : List ℕ) (b a : ℕ) → Waits (xs ++ b ∷ []) a → (b ≡ a) ⊎ Waits xs a
 waits_more [] b a (inl e) = inl e
@@ -45,7 +45,7 @@ one_less flags net lt =
     at_most false = omega arith
 
 -- one net more waits
-module _ (count : ℕ) (nets : List ℕ) (flags : List Bool) (queue : IsQueue count nets flags) (net : ℕ) (lt : net < length flags)
+module _ (count : ℕ) (nets : List ℕ) (flags : List Bool) (queue : IsWaiting count nets flags) (net : ℕ) (lt : net < length flags)
     (free : get_or flags net false ≡ false) where
   pub has_room : count < length nets
   has_room =
@@ -57,7 +57,7 @@ module _ (count : ℕ) (nets : List ℕ) (flags : List Bool) (queue : IsQueue co
   pub longer : take (count + 1) (set nets count net) ≡ take count nets ++ net ∷ []
   longer = take_more_set nets count net has_room
 
-  pub added : IsQueue (count + 1) (set nets count net) (set flags net true)
+  pub added : IsWaiting (count + 1) (set nets count net) (set flags net true)
   added = record {
     size = length-set nets count net ∙ queue.size ∙ sym (length-set flags net true);
     room = let more = one_more flags net lt free in omega (arith, more, queue.room);
@@ -79,8 +79,8 @@ module _ (count : ℕ) (nets : List ℕ) (flags : List Bool) (queue : IsQueue co
       by_net other h (inr apart) = waits_before (take count nets) net other (queue.listed other (sym (get_or-set_other flags net other true false apart) ∙ h))
 
 -- the last net waits no more
-pub popped : (count : ℕ) (nets : List ℕ) (flags : List Bool) (last net : ℕ) → IsQueue count nets flags → count ≡ last + 1 → net ≡ get_or nets last 0
-    → IsQueue last nets (set flags net false)
+pub popped : (count : ℕ) (nets : List ℕ) (flags : List Bool) (last net : ℕ) → IsWaiting count nets flags → count ≡ last + 1 → net ≡ get_or nets last 0
+    → IsWaiting last nets (set flags net false)
 popped count nets flags last net queue one is = record {
   size = queue.size ∙ sym (length-set flags net false);
   room = let less = one_less flags net below_net in omega (arith, less, queue.room);
