@@ -5,8 +5,8 @@ ghost use Rattle.nmos_model.specs.Refusals.{NeverBoth, RefusedOnce, StandForOne}
 
 use crate::drawn::Drawn;
 
-/// A drawing with labels stands for one network, up to the numbers of its nets and the order of its devices, or it is refused with
-/// one code at one place, and never both.
+/// A drawing with labels stands for no more than one network, up to the numbers of its nets and the order of its devices, is refused with
+/// no more than one code at one place, and never both.
 pub fn drawings_are_networks_or_refused<D: Drawn>()
     ensures network { (drawn : D) → StandForOne (D.covers drawn) }
     ensures apart { (drawn : D) → NeverBoth (D.covers drawn) }
