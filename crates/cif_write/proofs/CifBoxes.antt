@@ -80,10 +80,10 @@ module _ (symbols : List CifSymbol) (drawing : CifDrawing) (n : ℕ) (boxes : Li
     spelled = (
       tt,
       part_then (Letters (codes "B")) false _ (codes "B") (codes " ") _ refl refl (λ e. cc)
-      (part_then (Unsigned along) true _ (decimal along) (codes " ") _ (number_writes along (omega (arith, x.few))) refl (λ e f. cc)
-      (part_then (Unsigned across) true _ (decimal across) (codes " ") _ (number_writes across (omega (arith, y.few))) refl (λ e f. cc)
-      (part_then (Signed (b.x1 +ℤ b.x2)) true _ (signed_decimal (b.x1 +ℤ b.x2)) (codes " ") _ (signed_writes _ (small_size _ middle_x)) refl (λ e f. cc)
-      (part_then (Signed (b.y1 +ℤ b.y2)) false _ (signed_decimal (b.y1 +ℤ b.y2)) [] _ (signed_writes _ (small_size _ middle_y)) refl (λ e. cc) refl)))),
+          (part_then (Unsigned along) true _ (decimal along) (codes " ") _ (number_writes along (omega (arith, x.few))) refl (λ e f. cc)
+          (part_then (Unsigned across) true _ (decimal across) (codes " ") _ (number_writes across (omega (arith, y.few))) refl (λ e f. cc)
+          (part_then (Signed (b.x1 +ℤ b.x2)) true _ (signed_decimal (b.x1 +ℤ b.x2)) (codes " ") _ (signed_writes _ (small_size _ middle_x)) refl (λ e f. cc)
+          (part_then (Signed (b.y1 +ℤ b.y2)) false _ (signed_decimal (b.y1 +ℤ b.y2)) [] _ (signed_writes _ (small_size _ middle_y)) refl (λ e. cc) refl)))),
     );
     clear = clear;
     leads = λ place. (b ∷ [], drawn, refl);
@@ -117,13 +117,13 @@ module _ (symbols : List CifSymbol) (drawing : CifDrawing) (n : ℕ) (boxes : Li
       clear C7 h = none_is (IsOffGrid hundred) (edges along across) (left.on_grid, (bottom.on_grid, (right.on_grid, (top.on_grid, tt)))) h
       clear C8 h = elim h [
         | inl great ↦ none_is IsTooGreat (pos along ∷ pos across ∷ (b.x1 +ℤ b.x2) ∷ (b.y1 +ℤ b.y2) ∷ [])
-        (not_great _ (within_numbers along x.few), (not_great _ (within_numbers across y.few), (not_great _ middle_x, (not_great _ middle_y, tt)))) great
+            (not_great _ (within_numbers along x.few), (not_great _ (within_numbers across y.few), (not_great _ middle_x, (not_great _ middle_y, tt)))) great
         | inr far ↦ none_is (IsFarOff hundred) (edges along across) (left.near, (bottom.near, (right.near, (top.near, tt)))) far
       ]
       clear C9 h = elim h [ inl none ↦ x.some none | inr rest ↦ elim rest [ inl none ↦ y.some none | inr oblique ↦ cc ] ]
       clear other h = h
 
--- ---- lines
+  -- ---- lines
 
   -- the line of the box, and what is read behind it
   pub box_goes : (more : List ℕ) (xs : List BoxShape) (ls : List Label)
@@ -133,9 +133,9 @@ module _ (symbols : List CifSymbol) (drawing : CifDrawing) (n : ℕ) (boxes : Li
       let (along, x) = sides b.x1 b.x2 good.box.across.order good.left good.right in
       let (across, y) = sides b.y1 b.y2 good.box.upward.order good.bottom good.top in
       let e : box_line b ++ more ≡ box_text along across ++ (59 ∷ 10 ∷ more) =
-          rw (← x.is, ← y.is) (
-          written (codes "B ") (decimal along) (codes " ") (decimal across) (signed_decimal (b.x1 +ℤ b.x2)) (signed_decimal (b.y1 +ℤ b.y2)) (codes ";\n") more
-          ∙ sym (nested (codes "B ") (decimal along) (codes " ") (decimal across) (signed_decimal (b.x1 +ℤ b.x2)) (signed_decimal (b.y1 +ℤ b.y2)) [] (59 ∷ 10 ∷ more))) in
+      rw (← x.is, ← y.is) (
+      written (codes "B ") (decimal along) (codes " ") (decimal across) (signed_decimal (b.x1 +ℤ b.x2)) (signed_decimal (b.y1 +ℤ b.y2)) (codes ";\n") more
+      ∙ sym (nested (codes "B ") (decimal along) (codes " ") (decimal across) (signed_decimal (b.x1 +ℤ b.x2)) (signed_decimal (b.y1 +ℤ b.y2)) [] (59 ∷ 10 ∷ more))) in
       rw e (step more xs ls (draws_box along across x y) (λ place. behind))
 
   -- the line of its layer and its own
@@ -148,11 +148,11 @@ module _ (symbols : List CifSymbol) (drawing : CifDrawing) (n : ℕ) (boxes : Li
           → GoesBehind (within symbols drawing n boxes before) ((layer_line before b.layer ++ box_line b) ++ more) xs ls
       by_test before false t =
           let e : (layer_line before b.layer ++ box_line b) ++ more
-              ≡ (codes "L" ++ (codes " " ++ (layer_word b.layer ++ ([] ++ [])))) ++ (59 ∷ 10 ∷ (box_line b ++ more)) =
-              rw t (ap (λ l. l ++ more) (append_assoc (codes "L " ++ layer_word b.layer) (codes ";\n") (box_line b))
-              ∙ append_assoc (codes "L " ++ layer_word b.layer) (codes ";\n" ++ box_line b) more
-              ∙ append_assoc (codes "L ") (layer_word b.layer) (codes ";\n" ++ (box_line b ++ more))
-              ∙ sym (append_assoc (codes "L ") (layer_word b.layer ++ []) (59 ∷ 10 ∷ (box_line b ++ more)) ∙ ap (λ l. codes "L " ++ l) (append_assoc (layer_word b.layer) [] (59 ∷ 10 ∷ (box_line b ++ more))))) in
+          ≡ (codes "L" ++ (codes " " ++ (layer_word b.layer ++ ([] ++ [])))) ++ (59 ∷ 10 ∷ (box_line b ++ more)) =
+          rw t (ap (λ l. l ++ more) (append_assoc (codes "L " ++ layer_word b.layer) (codes ";\n") (box_line b))
+          ∙ append_assoc (codes "L " ++ layer_word b.layer) (codes ";\n" ++ box_line b) more
+          ∙ append_assoc (codes "L ") (layer_word b.layer) (codes ";\n" ++ (box_line b ++ more))
+          ∙ sym (append_assoc (codes "L ") (layer_word b.layer ++ []) (59 ∷ 10 ∷ (box_line b ++ more)) ∙ ap (λ l. codes "L " ++ l) (append_assoc (layer_word b.layer) [] (59 ∷ 10 ∷ (box_line b ++ more))))) in
           rw e (step (box_line b ++ more) xs ls (sets_layer symbols drawing n boxes before b.layer) (λ place. box_goes more xs ls behind))
       by_test None true t = cc
       by_test (Some last) true t =
@@ -173,10 +173,10 @@ module _ (symbols : List CifSymbol) (drawing : CifDrawing) (n : ℕ) where
   boxes_go (b ∷ boxes) drawn before more xs ls good behind =
       let e : (drawn ++ b ∷ []) ++ boxes ≡ drawn ++ b ∷ boxes = append_assoc drawn (b ∷ []) boxes in
       let later =
-          boxes_go boxes (drawn ++ b ∷ []) (Some b.layer) more xs ls (λ c among. good c (inr among))
-          (λ layer. rw e (behind layer)) in
+      boxes_go boxes (drawn ++ b ∷ []) (Some b.layer) more xs ls (λ c among. good c (inr among))
+      (λ layer. rw e (behind layer)) in
       let f : box_lines before (b ∷ boxes) ++ more ≡ (layer_line before b.layer ++ box_line b) ++ (box_lines (Some b.layer) boxes ++ more) =
-          append_assoc (layer_line before b.layer ++ box_line b) (box_lines (Some b.layer) boxes) more in
+      append_assoc (layer_line before b.layer ++ box_line b) (box_lines (Some b.layer) boxes) more in
       rw f (layer_goes symbols drawing n drawn b (good b (inl refl)) before (box_lines (Some b.layer) boxes ++ more) xs ls later)
 
   -- the definition of a kind
@@ -185,11 +185,11 @@ module _ (symbols : List CifSymbol) (drawing : CifDrawing) (n : ℕ) where
       → GoesBehind (outside symbols drawing) (kind_lines n boxes ++ more) xs ls
   kind_goes boxes more xs ls good few fresh behind =
       let end : (layer : Option Layer) → GoesBehind (within symbols drawing n boxes layer) (codes "DF;\n" ++ more) xs ls =
-          λ layer. step more xs ls (closes symbols drawing n boxes layer) (λ place. behind) in
+      λ layer. step more xs ls (closes symbols drawing n boxes layer) (λ place. behind) in
       let lines : GoesBehind (within symbols drawing n [] None) (box_lines None boxes ++ (codes "DF;\n" ++ more)) xs ls =
-          boxes_go boxes [] None (codes "DF;\n" ++ more) xs ls good end in
+      boxes_go boxes [] None (codes "DF;\n" ++ more) xs ls good end in
       let e : kind_lines n boxes ++ more ≡ opening_text symbols drawing n ++ (59 ∷ 10 ∷ (box_lines None boxes ++ (codes "DF;\n" ++ more))) =
-          kind_written (codes "DS ") (decimal n) (codes " 100 1") (codes ";\n") (box_lines None boxes) (codes "DF;\n") more in
+      kind_written (codes "DS ") (decimal n) (codes " 100 1") (codes ";\n") (box_lines None boxes) (codes "DF;\n") more in
       rw e (step _ xs ls (opens symbols drawing n few fresh) (λ place. lines))
     where
       kind_written : (head number scale end boxes last more : List ℕ)

@@ -68,9 +68,9 @@ module _ (symbols : List CifSymbol) (drawing : CifDrawing) (n : ℕ) where
     spelled = (
       (λ e. cc, λ e. cc),
       part_then (Letters (codes "DS")) false _ (codes "DS") (codes " ") _ refl refl (λ e. cc)
-      (part_then (Unsigned n) true _ (decimal n) (codes " ") _ (number_writes n (omega (arith, few))) refl (λ e f. cc)
-      (part_then (Unsigned 100) true _ (codes "100") (codes " ") _ (record { some = λ e. cc; digits = refl; value = refl }) refl (λ e f. cc)
-      (part_then (Unsigned 1) false _ (codes "1") [] _ (record { some = λ e. cc; digits = refl; value = refl }) refl (λ e. cc) refl))),
+          (part_then (Unsigned n) true _ (decimal n) (codes " ") _ (number_writes n (omega (arith, few))) refl (λ e f. cc)
+          (part_then (Unsigned 100) true _ (codes "100") (codes " ") _ (record { some = λ e. cc; digits = refl; value = refl }) refl (λ e f. cc)
+          (part_then (Unsigned 1) false _ (codes "1") [] _ (record { some = λ e. cc; digits = refl; value = refl }) refl (λ e. cc) refl))),
     );
     clear = clear;
     leads = λ place. refl;
@@ -83,7 +83,7 @@ module _ (symbols : List CifSymbol) (drawing : CifDrawing) (n : ℕ) where
       clear C6 h = cc
       clear C8 h = elim h [
         | inl great ↦ none_is IsTooGreat (pos n ∷ pos 100 ∷ pos 1 ∷ [])
-        (not_great _ (within_numbers n few), (not_great _ (within_numbers 100 (omega arith)), (not_great _ (within_numbers 1 (omega arith)), tt))) great
+            (not_great _ (within_numbers n few), (not_great _ (within_numbers 100 (omega arith)), (not_great _ (within_numbers 1 (omega arith)), tt))) great
         | inr far ↦ far
       ]
       clear other h = h
@@ -125,7 +125,7 @@ module _ (symbols : List CifSymbol) (drawing : CifDrawing) (n : ℕ) (boxes : Li
     spelled = (
       layer_word_short layer,
       part_then (Letters (codes "L")) false _ (codes "L") (codes " ") _ refl refl (λ e. cc)
-      (part_then (Letters (layer_word layer)) false _ (layer_word layer) [] _ refl refl (λ e. cc) refl),
+          (part_then (Letters (layer_word layer)) false _ (layer_word layer) [] _ refl refl (λ e. cc) refl),
     );
     clear = clear;
     leads = λ place. rw layer_named_word refl;

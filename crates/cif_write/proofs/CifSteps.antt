@@ -50,7 +50,7 @@ pub step : {s : CifState} {c : CifCommand} {text : List ℕ} {next : Place → C
 step {s} {c} {text} {next} {xs} {ls} more boxes labels reads behind front gap blanks =
     let place = place_behind (front ++ gap) in
     let here : CommandHere (gap ++ (text ++ (59 ∷ 10 ∷ more))) =
-        record { gap = gap; bytes = text; behind = 10 ∷ more; is = sym (append_assoc gap text (59 ∷ 10 ∷ more)); blanks = blanks; command = c; spelled = reads.spelled } in
+    record { gap = gap; bytes = text; behind = 10 ∷ more; is = sym (append_assoc gap text (59 ∷ 10 ∷ more)); blanks = blanks; command = c; spelled = reads.spelled } in
     let later = behind place (front_with front (gap ++ (text ++ (59 ∷ 10 ∷ more))) here) (10 ∷ []) refl in
     record {
       last = later.last;

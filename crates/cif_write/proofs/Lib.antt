@@ -6,3 +6,6 @@ pub mod CifNumbers
 pub mod CifSteps
 pub mod CifKinds
 pub mod CifBoxes
+pub mod CifCalls
+pub mod CifLabelLines
+pub mod ChipIsDrawn

@@ -5,7 +5,9 @@
 //! lambda; in definitions the scale of 100 leaves halves of a lambda.
 #![tactic(auto)]
 
+mod laws;
 mod page;
 mod writing;
 
+pub use laws::chip_texts_draw;
 pub use writing::write_cif;
