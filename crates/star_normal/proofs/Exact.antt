@@ -1,10 +1,10 @@
 -- At every node of a normal form the flag of the empty word is exact.
 use Rattle.std.proofs.Common.{◌≡◌, ℕ, Bool, true, false, not, ◌&&◌, Decides, [], refl, sym, ap, ◌∙◌}
-use Rattle.rx_lang.specs.Expression.{Expr, symbol, sequence, union, star, plus, optional, marked}
+use Rattle.rx_lang.specs.Expression.{Expr, symbol, sequence, union, star, plus, optional, marked, repeated}
 use Rattle.rx_lang.specs.Meaning.{Spells}
 use Rattle.star_normal.specs.Trees.{Flags, FlaggedTree, leaf, seq, alt, flags, TreeSpells}
 use Rattle.star_normal.specs.Normal.{nullable, with_flags, looped, emptied, marking, joined, sequenced, turned, opted, normal}
-use Rattle.star_normal.specs.Shapes.{IsExact}
+use Rattle.star_normal.specs.Shapes.{HasNoRepeat, IsExact}
 use Rattle.star_normal.proofs.Forms.{bare_normal, flags_with, Holds, nullable_holds, Form, forms}
 
 eps_joined : (nf ng : Bool) (l r : FlaggedTree) → (flags (joined nf ng l r)).eps ≡ false
@@ -25,20 +25,21 @@ eps_opted true e t h = h
 eps_opted false e t h = ap (λ f. f.eps) (flags_with (emptied (flags t)) t)
 
 -- the flag of the top node is the test of the expression, but false below a loop
-pub eps_normal : (under : Bool) (e : Expr) → (flags (normal under e)).eps ≡ (not under && nullable e)
-eps_normal true (symbol s) = refl
-eps_normal false (symbol s) = refl
-eps_normal under (sequence f g) = eps_sequenced under (nullable f) (nullable g) (normal (under && nullable g) f) (normal (under && nullable f) g)
-eps_normal under (union f g) = refl
-eps_normal under (star f) = eps_turned under true (normal true f) (bare_normal f).eps
-eps_normal under (plus f) = eps_turned under (nullable f) (normal true f) (bare_normal f).eps
-eps_normal under (optional f) = eps_opted under (nullable f) (normal under f) (eps_normal under f)
-eps_normal under (marked f y) = ap (λ h. h.eps) (flags_with (marking y (nullable f) (flags (normal under f))) (normal under f)) ∙ eps_normal under f
+pub eps_normal : (under : Bool) (e : Expr) → HasNoRepeat e → (flags (normal under e)).eps ≡ (not under && nullable e)
+eps_normal true (symbol s) p = refl
+eps_normal false (symbol s) p = refl
+eps_normal under (sequence f g) p = eps_sequenced under (nullable f) (nullable g) (normal (under && nullable g) f) (normal (under && nullable f) g)
+eps_normal under (union f g) p = refl
+eps_normal under (star f) p = eps_turned under true (normal true f) (bare_normal f).eps
+eps_normal under (plus f) p = eps_turned under (nullable f) (normal true f) (bare_normal f).eps
+eps_normal under (optional f) p = eps_opted under (nullable f) (normal under f) (eps_normal under f p)
+eps_normal under (marked f y) p = ap (λ h. h.eps) (flags_with (marking y (nullable f) (flags (normal under f))) (normal under f)) ∙ eps_normal under f p
+eps_normal under (repeated f m n) p = absurd p
 
 module _ {X : Type 0} (Is : ℕ → X → Type 0) where
-  top_decided : (under : Bool) (e : Expr) (t : FlaggedTree) → Form Is under e t → (flags t).eps ≡ (not under && nullable e) → Decides (flags t).eps (TreeSpells Is t [])
-  top_decided true e t s h = (λ yes. let e = h in cc, λ b. absurd (s.full [] b refl))
-  top_decided false e t s h = let n : Holds Is (Spells Is e) (nullable e) = nullable_holds Is e in
+  top_decided : (under : Bool) (e : Expr) → HasNoRepeat e → (t : FlaggedTree) → Form Is under e t → (flags t).eps ≡ (not under && nullable e) → Decides (flags t).eps (TreeSpells Is t [])
+  top_decided true e p t s h = (λ yes. let e = h in cc, λ b. absurd (s.full [] b refl))
+  top_decided false e p t s h = let n : Holds Is (Spells Is e) (nullable e) = nullable_holds Is e p in
       (λ yes. s.to [] (n.yes (sym h ∙ yes)), λ b. h ∙ n.no (s.from [] b))
 
   -- exact below the top node
@@ -74,18 +75,19 @@ module _ {X : Type 0} (Is : ℕ → X → Type 0) where
   inner_opted true t i = i
   inner_opted false t i = inner_with (emptied (flags t)) t i
 
-  top_normal : (under : Bool) (e : Expr) → Inner (normal under e) → IsExact Is (normal under e)
-  top_normal under e i = exact_of (normal under e) (top_decided under e (normal under e) (forms Is under e) (eps_normal under e)) i
+  top_normal : (under : Bool) (e : Expr) → HasNoRepeat e → Inner (normal under e) → IsExact Is (normal under e)
+  top_normal under e p i = exact_of (normal under e) (top_decided under e p (normal under e) (forms Is under e p) (eps_normal under e p)) i
 
-  inner_normal : (under : Bool) (e : Expr) → Inner (normal under e)
-  inner_normal under (symbol s) = tt
-  inner_normal under (sequence f g) = inner_sequenced under (nullable f) (nullable g) (normal (under && nullable g) f) (normal (under && nullable f) g)
-      (top_normal (under && nullable g) f (inner_normal (under && nullable g) f)) (top_normal (under && nullable f) g (inner_normal (under && nullable f) g))
-  inner_normal under (union f g) = (top_normal under f (inner_normal under f), top_normal under g (inner_normal under g))
-  inner_normal under (star f) = inner_turned under true (normal true f) (inner_normal true f)
-  inner_normal under (plus f) = inner_turned under (nullable f) (normal true f) (inner_normal true f)
-  inner_normal under (optional f) = inner_opted under (normal under f) (inner_normal under f)
-  inner_normal under (marked f y) = inner_with (marking y (nullable f) (flags (normal under f))) (normal under f) (inner_normal under f)
+  inner_normal : (under : Bool) (e : Expr) → HasNoRepeat e → Inner (normal under e)
+  inner_normal under (symbol s) p = tt
+  inner_normal under (sequence f g) p = inner_sequenced under (nullable f) (nullable g) (normal (under && nullable g) f) (normal (under && nullable f) g)
+      (top_normal (under && nullable g) f p.0 (inner_normal (under && nullable g) f p.0)) (top_normal (under && nullable f) g p.1 (inner_normal (under && nullable f) g p.1))
+  inner_normal under (union f g) p = (top_normal under f p.0 (inner_normal under f p.0), top_normal under g p.1 (inner_normal under g p.1))
+  inner_normal under (star f) p = inner_turned under true (normal true f) (inner_normal true f p)
+  inner_normal under (plus f) p = inner_turned under (nullable f) (normal true f) (inner_normal true f p)
+  inner_normal under (optional f) p = inner_opted under (normal under f) (inner_normal under f p)
+  inner_normal under (marked f y) p = inner_with (marking y (nullable f) (flags (normal under f))) (normal under f) (inner_normal under f p)
+  inner_normal under (repeated f m n) p = absurd p
 
-  pub exact_normal : (under : Bool) (e : Expr) → IsExact Is (normal under e)
-  exact_normal under e = top_normal under e (inner_normal under e)
+  pub exact_normal : (under : Bool) (e : Expr) → HasNoRepeat e → IsExact Is (normal under e)
+  exact_normal under e p = top_normal under e p (inner_normal under e p)

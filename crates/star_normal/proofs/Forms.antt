@@ -1,9 +1,10 @@
 -- The normal form spells and marks what its expression does; below a loop it is stripped.
 use Rattle.std.proofs.Common.{◌≡◌, ◌⊎◌, ℕ, Bool, true, false, not, ◌&&◌, ◌||◌, IsTrue, List, [], refl, inl, inr}
-use Rattle.rx_lang.specs.Expression.{Expr, symbol, sequence, union, star, plus, optional, marked}
+use Rattle.rx_lang.specs.Expression.{Expr, symbol, sequence, union, star, plus, optional, marked, repeated}
 use Rattle.rx_lang.specs.Meaning.{Cut, Many, Spells, Marks}
 use Rattle.star_normal.specs.Trees.{Flags, FlaggedTree, leaf, seq, alt, flags, Letter, TreeSpells, TreeMarks}
 use Rattle.star_normal.specs.Normal.{nullable, held, bare, with_flags, looped, emptied, marking, joined, sequenced, turned, opted, normal}
+use Rattle.star_normal.specs.Shapes.{HasNoRepeat}
 use Rattle.star_normal.proofs.Langs.{cut_nil, cut_now, many_nil}
 use Rattle.star_normal.proofs.Strips.{Same, Strip, same_move, strip_move, strip_same, Marked, same_mark, strip_mark, strip_option, same_option, Looped, strip_star, strip_plus, same_star, same_plus}
 use Rattle.star_normal.proofs.Pairs.{same_seq, same_or, strip_or, strip_both, strip_left, strip_right, strip_neither}
@@ -37,6 +38,7 @@ bare_normal (star f) = bare_normal f
 bare_normal (plus f) = bare_normal f
 bare_normal (optional f) = bare_normal f
 bare_normal (marked f y) = bare_mark y (nullable f) (normal true f) (bare_normal f)
+bare_normal (repeated f m n) = bare_normal f
 
 module _ {X : Type 0} (Is : ℕ → X → Type 0) where
   -- the test tells whether there is the empty word
@@ -70,14 +72,15 @@ module _ {X : Type 0} (Is : ℕ → X → Type 0) where
     no = λ d. h.no (cut_nil A (Many A) d.front d.rest d.whole d.first d.second).0;
   }
 
-  pub nullable_holds : (e : Expr) → Holds (Spells Is e) (nullable e)
-  nullable_holds (symbol s) = record { yes = λ h. cc; no = λ h. let e = h.1 in cc }
-  nullable_holds (sequence f g) = both_holds (Spells Is f) (Spells Is g) (nullable f) (nullable g) (nullable_holds f) (nullable_holds g)
-  nullable_holds (union f g) = either_holds (Spells Is f) (Spells Is g) (nullable f) (nullable g) (nullable_holds f) (nullable_holds g)
-  nullable_holds (star f) = record { yes = λ h. many_nil (Spells Is f); no = λ h. refl }
-  nullable_holds (plus f) = plus_holds (Spells Is f) (nullable f) (nullable_holds f)
-  nullable_holds (optional f) = record { yes = λ h. inl refl; no = λ h. refl }
-  nullable_holds (marked f y) = nullable_holds f
+  pub nullable_holds : (e : Expr) → HasNoRepeat e → Holds (Spells Is e) (nullable e)
+  nullable_holds (symbol s) p = record { yes = λ h. cc; no = λ h. let e = h.1 in cc }
+  nullable_holds (sequence f g) p = both_holds (Spells Is f) (Spells Is g) (nullable f) (nullable g) (nullable_holds f p.0) (nullable_holds g p.1)
+  nullable_holds (union f g) p = either_holds (Spells Is f) (Spells Is g) (nullable f) (nullable g) (nullable_holds f p.0) (nullable_holds g p.1)
+  nullable_holds (star f) p = record { yes = λ h. many_nil (Spells Is f); no = λ h. refl }
+  nullable_holds (plus f) p = plus_holds (Spells Is f) (nullable f) (nullable_holds f p)
+  nullable_holds (optional f) p = record { yes = λ h. inl refl; no = λ h. refl }
+  nullable_holds (marked f y) p = nullable_holds f p
+  nullable_holds (repeated f m n) p = absurd p
 
   -- The setters of flags on trees.
 
@@ -176,12 +179,13 @@ module _ {X : Type 0} (Is : ℕ → X → Type 0) where
   form_sequenced false f g nf ng h k l r s t =
       form_sequence f g (nf && ng) (both_holds (Spells Is f) (Spells Is g) nf ng h k) l r s t
 
-  pub forms : (under : Bool) (e : Expr) → Form under e (normal under e)
-  forms under (symbol s) = form_leaf under s
-  forms under (sequence f g) = form_sequenced under f g (nullable f) (nullable g) (nullable_holds f) (nullable_holds g)
-      (normal (under && nullable g) f) (normal (under && nullable f) g) (forms (under && nullable g) f) (forms (under && nullable f) g)
-  forms under (union f g) = form_union under f g (nullable f || nullable g) (nullable_holds (union f g)) (normal under f) (normal under g) (forms under f) (forms under g)
-  forms under (star f) = form_star under f (normal true f) (bare_normal f) (forms true f)
-  forms under (plus f) = form_plus under f (nullable f) (nullable_holds f) (normal true f) (bare_normal f) (forms true f)
-  forms under (optional f) = form_optional under f (normal under f) (forms under f)
-  forms under (marked f y) = form_marked under f y (nullable f) (nullable_holds f) (normal under f) (forms under f)
+  pub forms : (under : Bool) (e : Expr) → HasNoRepeat e → Form under e (normal under e)
+  forms under (symbol s) p = form_leaf under s
+  forms under (sequence f g) p = form_sequenced under f g (nullable f) (nullable g) (nullable_holds f p.0) (nullable_holds g p.1)
+      (normal (under && nullable g) f) (normal (under && nullable f) g) (forms (under && nullable g) f p.0) (forms (under && nullable f) g p.1)
+  forms under (union f g) p = form_union under f g (nullable f || nullable g) (nullable_holds (union f g) p) (normal under f) (normal under g) (forms under f p.0) (forms under g p.1)
+  forms under (star f) p = form_star under f (normal true f) (bare_normal f) (forms true f p)
+  forms under (plus f) p = form_plus under f (nullable f) (nullable_holds f p) (normal true f) (bare_normal f) (forms true f p)
+  forms under (optional f) p = form_optional under f (normal under f) (forms under f p)
+  forms under (marked f y) p = form_marked under f y (nullable f) (nullable_holds f p) (normal under f) (forms under f p)
+  forms under (repeated f m n) p = absurd p

@@ -8,10 +8,9 @@ use Rattle.star_normal.specs.declared.node.NodeKind.{NodeKind}
 use Rattle.star_normal.specs.declared.node.NodeKind.TheVariants.{Leaf, Seq, Alt}
 use Rattle.star_normal.specs.Trees.{leaves}
 use Rattle.star_normal.specs.Tables.{TreeTable, IsTree, parts, is_leaf, node_uses, whole}
-use Rattle.star_normal.specs.Building.{leaf_one, of_node}
 use Rattle.star_normal.specs.Sizes.{size_at}
-use Rattle.star_normal.proofs.Growing.{is_hit, not_hit}
-use Rattle.star_normal.proofs.Sized.{upto, not_equal, none_adds, split_all, none_below, flat_sum, within_one, within_all, sums}
+use Rattle.star_normal.proofs.Assembled.{is_hit, not_hit}
+use Rattle.star_normal.proofs.Sized.{leaf_one, of_node, upto, not_equal, none_adds, split_all, none_below, flat_sum, within_one, within_all, sums}
 
 -- a number that stands in the list once adds its value
 one_by : (f : ℕ → ℕ) (n x : ℕ) (xs : List ℕ) → (n ≡ x) ⊎ (n ≡ x → ⊥) → count_by (λ x. x == n) (x ∷ xs) ≡ 1

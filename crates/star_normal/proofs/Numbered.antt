@@ -1,9 +1,10 @@
 -- The leaves of a normal form are the occurrences of its expression, in order.
 use Rattle.std.proofs.Common.{◌≡◌, ℕ, ◌+◌, ◌*◌, Bool, true, false, not, ◌&&◌, ◌||◌, ◌++◌, length, refl, sym, ap, ◌∙◌, arith, length-append}
-use Rattle.rx_lang.specs.Expression.{Expr, symbol, sequence, union, star, plus, optional, marked}
+use Rattle.rx_lang.specs.Expression.{Expr, symbol, sequence, union, star, plus, optional, marked, repeated}
 use Rattle.star_normal.specs.Trees.{Flags, FlaggedTree, leaf, seq, alt, flags, leaves}
-use Rattle.star_normal.specs.Normal.{nullable, held, with_flags, looped, emptied, marking, sequenced, turned, opted, normal, occurrences}
-use Rattle.star_normal.specs.Shapes.{size, numbered, tree_numbered}
+use Rattle.star_normal.specs.Normal.{nullable, held, with_flags, looped, emptied, marking, sequenced, turned, opted, normal}
+use Rattle.rx_lang.specs.Copies.{numbered, occurrences}
+use Rattle.star_normal.specs.Shapes.{HasNoRepeat, size, tree_numbered}
 
 pub leaves_with : (h : Flags) (t : FlaggedTree) → leaves (with_flags h t) ≡ leaves t
 leaves_with h (leaf f s) = refl
@@ -24,16 +25,17 @@ leaves_opted : (under : Bool) (t : FlaggedTree) → leaves (opted under t) ≡ l
 leaves_opted true t = refl
 leaves_opted false t = leaves_with (emptied (flags t)) t
 
-pub leaves_normal : (under : Bool) (e : Expr) → leaves (normal under e) ≡ occurrences e
-leaves_normal under (symbol s) = refl
-leaves_normal under (sequence f g) =
+pub leaves_normal : (under : Bool) (e : Expr) → HasNoRepeat e → leaves (normal under e) ≡ occurrences e
+leaves_normal under (symbol s) p = refl
+leaves_normal under (sequence f g) p =
     leaves_sequenced under (nullable f) (nullable g) (normal (under && nullable g) f) (normal (under && nullable f) g)
-    ∙ rw (leaves_normal (under && nullable g) f, leaves_normal (under && nullable f) g) refl
-leaves_normal under (union f g) = rw (leaves_normal under f, leaves_normal under g) refl
-leaves_normal under (star f) = leaves_turned under true (normal true f) ∙ leaves_normal true f
-leaves_normal under (plus f) = leaves_turned under (nullable f) (normal true f) ∙ leaves_normal true f
-leaves_normal under (optional f) = leaves_opted under (normal under f) ∙ leaves_normal under f
-leaves_normal under (marked f y) = leaves_with (marking y (nullable f) (flags (normal under f))) (normal under f) ∙ leaves_normal under f
+    ∙ rw (leaves_normal (under && nullable g) f p.0, leaves_normal (under && nullable f) g p.1) refl
+leaves_normal under (union f g) p = rw (leaves_normal under f p.0, leaves_normal under g p.1) refl
+leaves_normal under (star f) p = leaves_turned under true (normal true f) ∙ leaves_normal true f p
+leaves_normal under (plus f) p = leaves_turned under (nullable f) (normal true f) ∙ leaves_normal true f p
+leaves_normal under (optional f) p = leaves_opted under (normal under f) ∙ leaves_normal under f p
+leaves_normal under (marked f y) p = leaves_with (marking y (nullable f) (flags (normal under f))) (normal under f) ∙ leaves_normal under f p
+leaves_normal under (repeated f m n) p = absurd p
 
 -- a full binary tree has one node less than twice its leaves
 pub size_leaves : (t : FlaggedTree) → size t + 1 ≡ 2 * length (leaves t)
@@ -49,6 +51,7 @@ nullable_numbered k (star f) = refl
 nullable_numbered k (plus f) = nullable_numbered k f
 nullable_numbered k (optional f) = refl
 nullable_numbered k (marked f y) = nullable_numbered k f
+nullable_numbered k (repeated f m n) = rw (nullable_numbered k f) refl
 
 with_numbered : (h : Flags → Flags) (k : ℕ) (t : FlaggedTree) → with_flags (h (flags (tree_numbered k t))) (tree_numbered k t) ≡ tree_numbered k (with_flags (h (flags t)) t)
 with_numbered h k (leaf f s) = refl
@@ -71,25 +74,26 @@ opted_numbered k true t = refl
 opted_numbered k false t = with_numbered emptied k t
 
 -- Numbering the occurrences and then taking the normal form is numbering the leaves of the normal form.
-pub normal_numbered : (k : ℕ) (under : Bool) (e : Expr) → normal under (numbered k e) ≡ tree_numbered k (normal under e)
-normal_numbered k under (symbol s) = refl
-normal_numbered k under (sequence f g) =
+pub normal_numbered : (k : ℕ) (under : Bool) (e : Expr) → HasNoRepeat e → normal under (numbered k e) ≡ tree_numbered k (normal under e)
+normal_numbered k under (symbol s) p = refl
+normal_numbered k under (sequence f g) p =
     let l : FlaggedTree = normal (under && nullable g) f in
     let r : FlaggedTree = normal (under && nullable f) g in
-    let at : k + length (leaves l) ≡ k + length (occurrences f) = ap (λ n. k + length n) (leaves_normal (under && nullable g) f) in
+    let at : k + length (leaves l) ≡ k + length (occurrences f) = ap (λ n. k + length n) (leaves_normal (under && nullable g) f p.0) in
     rw (
       nullable_numbered k f,
       nullable_numbered (k + length (occurrences f)) g,
-      normal_numbered k (under && nullable g) f,
-      normal_numbered (k + length (occurrences f)) (under && nullable f) g,
+      normal_numbered k (under && nullable g) f p.0,
+      normal_numbered (k + length (occurrences f)) (under && nullable f) g p.1,
     )
     (ap (λ n. sequenced under (nullable f) (nullable g) (tree_numbered k l) (tree_numbered n r)) (sym at)
     ∙ sequenced_numbered k under (nullable f) (nullable g) l r)
-normal_numbered k under (union f g) =
-    let at : k + length (leaves (normal under f)) ≡ k + length (occurrences f) = ap (λ n. k + length n) (leaves_normal under f) in
-    rw (nullable_numbered k f, nullable_numbered (k + length (occurrences f)) g, normal_numbered k under f, normal_numbered (k + length (occurrences f)) under g)
+normal_numbered k under (union f g) p =
+    let at : k + length (leaves (normal under f)) ≡ k + length (occurrences f) = ap (λ n. k + length n) (leaves_normal under f p.0) in
+    rw (nullable_numbered k f, nullable_numbered (k + length (occurrences f)) g, normal_numbered k under f p.0, normal_numbered (k + length (occurrences f)) under g p.1)
     (ap (λ n. alt (held (not under && (nullable f || nullable g))) (tree_numbered k (normal under f)) (tree_numbered n (normal under g))) (sym at))
-normal_numbered k under (star f) = ap (turned under true) (normal_numbered k true f) ∙ turned_numbered k under true (normal true f)
-normal_numbered k under (plus f) = rw (nullable_numbered k f, normal_numbered k true f) (turned_numbered k under (nullable f) (normal true f))
-normal_numbered k under (optional f) = ap (opted under) (normal_numbered k under f) ∙ opted_numbered k under (normal under f)
-normal_numbered k under (marked f y) = rw (nullable_numbered k f, normal_numbered k under f) (with_numbered (marking y (nullable f)) k (normal under f))
+normal_numbered k under (star f) p = ap (turned under true) (normal_numbered k true f p) ∙ turned_numbered k under true (normal true f)
+normal_numbered k under (plus f) p = rw (nullable_numbered k f, normal_numbered k true f p) (turned_numbered k under (nullable f) (normal true f))
+normal_numbered k under (optional f) p = ap (opted under) (normal_numbered k under f p) ∙ opted_numbered k under (normal under f)
+normal_numbered k under (marked f y) p = rw (nullable_numbered k f, normal_numbered k under f p) (with_numbered (marking y (nullable f)) k (normal under f))
+normal_numbered k under (repeated f m n) p = absurd p

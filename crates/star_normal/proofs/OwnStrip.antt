@@ -1,9 +1,9 @@
 -- The base of every loop of a normal form is its own strip, and no strip spells the empty word.
 use Rattle.std.proofs.Common.{◌≡◌, ℕ, Bool, true, false, not, ◌&&◌, ◌||◌, IsTrue, refl, sym, ap, ◌∙◌, subst}
-use Rattle.rx_lang.specs.Expression.{Expr, symbol, sequence, union, star, plus, optional, marked}
+use Rattle.rx_lang.specs.Expression.{Expr, symbol, sequence, union, star, plus, optional, marked, repeated}
 use Rattle.star_normal.specs.Trees.{Flags, FlaggedTree, leaf, seq, alt, flags}
 use Rattle.star_normal.specs.Normal.{nullable, held, with_flags, looped, emptied, marking, joined, sequenced, turned, opted, normal}
-use Rattle.star_normal.specs.Shapes.{strip, strip_sequence, plus_if, optional_if, plain, base, OwnStrip, AreStripped}
+use Rattle.star_normal.specs.Shapes.{HasNoRepeat, strip, strip_sequence, plus_if, optional_if, plain, base, OwnStrip, AreStripped}
 use Rattle.star_normal.proofs.Forms.{IsBare, bare_normal}
 
 full_sequence : (nf ng : Bool) (f g sf sg : Expr) → nullable f ≡ nf → nullable g ≡ ng → nullable sf ≡ false → nullable sg ≡ false
@@ -22,6 +22,7 @@ strip_full (star f) = strip_full f
 strip_full (plus f) = strip_full f
 strip_full (optional f) = strip_full f
 strip_full (marked f y) = strip_full f
+strip_full (repeated f m n) = strip_full f
 
 pub own_full : (e : Expr) → strip e ≡ e → nullable e ≡ false
 own_full e h = subst (λ x. nullable x ≡ false) h (strip_full e)
@@ -84,16 +85,17 @@ nullable_optional true e t h = h
 nullable_optional false e t h = nullable_opted t
 
 -- The normal form spells the empty word where its expression does, and below a loop it does not.
-pub nullable_normal : (under : Bool) (e : Expr) → nullable (plain (normal under e)) ≡ (not under && nullable e)
-nullable_normal true (symbol s) = refl
-nullable_normal false (symbol s) = refl
-nullable_normal under (sequence f g) = nullable_sequenced under (nullable f) (nullable g) (normal (under && nullable g) f) (normal (under && nullable f) g)
-    (nullable_normal (under && nullable g) f) (nullable_normal (under && nullable f) g)
-nullable_normal under (union f g) = nullable_union under (nullable f) (nullable g) (normal under f) (normal under g) (nullable_normal under f) (nullable_normal under g)
-nullable_normal under (star f) = nullable_turned under true (normal true f) (bare_normal f) (nullable_normal true f)
-nullable_normal under (plus f) = nullable_turned under (nullable f) (normal true f) (bare_normal f) (nullable_normal true f)
-nullable_normal under (optional f) = nullable_optional under (nullable f) (normal under f) (nullable_normal under f)
-nullable_normal under (marked f y) = ap nullable (plain_mark y (nullable f) (normal under f)) ∙ nullable_normal under f
+pub nullable_normal : (under : Bool) (e : Expr) → HasNoRepeat e → nullable (plain (normal under e)) ≡ (not under && nullable e)
+nullable_normal true (symbol s) p = refl
+nullable_normal false (symbol s) p = refl
+nullable_normal under (sequence f g) p = nullable_sequenced under (nullable f) (nullable g) (normal (under && nullable g) f) (normal (under && nullable f) g)
+    (nullable_normal (under && nullable g) f p.0) (nullable_normal (under && nullable f) g p.1)
+nullable_normal under (union f g) p = nullable_union under (nullable f) (nullable g) (normal under f) (normal under g) (nullable_normal under f p.0) (nullable_normal under g p.1)
+nullable_normal under (star f) p = nullable_turned under true (normal true f) (bare_normal f) (nullable_normal true f p)
+nullable_normal under (plus f) p = nullable_turned under (nullable f) (normal true f) (bare_normal f) (nullable_normal true f p)
+nullable_normal under (optional f) p = nullable_optional under (nullable f) (normal under f) (nullable_normal under f p)
+nullable_normal under (marked f y) p = ap nullable (plain_mark y (nullable f) (normal under f)) ∙ nullable_normal under f p
+nullable_normal under (repeated f m n) p = absurd p
 
 own_joined : (nf ng : Bool) (l r : FlaggedTree) → nullable (plain l) ≡ (not ng && nf) → nullable (plain r) ≡ (not nf && ng)
     → (IsTrue ng → strip (plain l) ≡ plain l) → (IsTrue nf → strip (plain r) ≡ plain r) → strip (plain (joined nf ng l r)) ≡ plain (joined nf ng l r)
@@ -102,16 +104,17 @@ own_joined true false l r a b c d = rw (a, b, d refl) refl
 own_joined false true l r a b c d = rw (a, b, c refl) refl
 own_joined false false l r a b c d = rw (a, b) refl
 
-own_normal : (under : Bool) (e : Expr) → IsTrue under → strip (plain (normal under e)) ≡ plain (normal under e)
-own_normal false e h = cc
-own_normal true (symbol s) h = refl
-own_normal true (sequence f g) h = own_joined (nullable f) (nullable g) (normal (nullable g) f) (normal (nullable f) g)
-    (nullable_normal (nullable g) f) (nullable_normal (nullable f) g) (own_normal (nullable g) f) (own_normal (nullable f) g)
-own_normal true (union f g) h = rw (own_normal true f refl, own_normal true g refl) refl
-own_normal true (star f) h = own_normal true f refl
-own_normal true (plus f) h = own_normal true f refl
-own_normal true (optional f) h = own_normal true f refl
-own_normal true (marked f y) h = rw (plain_mark y (nullable f) (normal true f)) (own_normal true f refl)
+own_normal : (under : Bool) (e : Expr) → HasNoRepeat e → IsTrue under → strip (plain (normal under e)) ≡ plain (normal under e)
+own_normal false e p h = cc
+own_normal true (symbol s) p h = refl
+own_normal true (sequence f g) p h = own_joined (nullable f) (nullable g) (normal (nullable g) f) (normal (nullable f) g)
+    (nullable_normal (nullable g) f p.0) (nullable_normal (nullable f) g p.1) (own_normal (nullable g) f p.0) (own_normal (nullable f) g p.1)
+own_normal true (union f g) p h = rw (own_normal true f p.0 refl, own_normal true g p.1 refl) refl
+own_normal true (star f) p h = own_normal true f p refl
+own_normal true (plus f) p h = own_normal true f p refl
+own_normal true (optional f) p h = own_normal true f p refl
+own_normal true (marked f y) p h = rw (plain_mark y (nullable f) (normal true f)) (own_normal true f p refl)
+own_normal true (repeated f m n) p h = absurd p
 
 -- a tree whose base is its own strip
 plain_base : (t : FlaggedTree) → IsBare (flags t) → plain t ≡ base t
@@ -147,15 +150,16 @@ opted_stripped : (under : Bool) (t : FlaggedTree) → AreStripped t → AreStrip
 opted_stripped true t a = a
 opted_stripped false t a = flagged (emptied (flags t)) t (top_of t a) a
 
-own_base : (e : Expr) → strip (base (normal true e)) ≡ base (normal true e)
-own_base e = subst (λ x. strip x ≡ x) (plain_base (normal true e) (bare_normal e)) (own_normal true e refl)
+own_base : (e : Expr) → HasNoRepeat e → strip (base (normal true e)) ≡ base (normal true e)
+own_base e p = subst (λ x. strip x ≡ x) (plain_base (normal true e) (bare_normal e)) (own_normal true e p refl)
 
-pub are_stripped : (under : Bool) (e : Expr) → AreStripped (normal under e)
-are_stripped under (symbol s) = λ n. refl
-are_stripped under (sequence f g) = sequenced_stripped under (nullable f) (nullable g) (normal (under && nullable g) f) (normal (under && nullable f) g)
-    (are_stripped (under && nullable g) f) (are_stripped (under && nullable f) g)
-are_stripped under (union f g) = (λ n. cc, are_stripped under f, are_stripped under g)
-are_stripped under (star f) = turned_stripped under true (normal true f) (own_base f) (are_stripped true f)
-are_stripped under (plus f) = turned_stripped under (nullable f) (normal true f) (own_base f) (are_stripped true f)
-are_stripped under (optional f) = opted_stripped under (normal under f) (are_stripped under f)
-are_stripped under (marked f y) = flagged (marking y (nullable f) (flags (normal under f))) (normal under f) (top_of (normal under f) (are_stripped under f)) (are_stripped under f)
+pub are_stripped : (under : Bool) (e : Expr) → HasNoRepeat e → AreStripped (normal under e)
+are_stripped under (symbol s) p = λ n. refl
+are_stripped under (sequence f g) p = sequenced_stripped under (nullable f) (nullable g) (normal (under && nullable g) f) (normal (under && nullable f) g)
+    (are_stripped (under && nullable g) f p.0) (are_stripped (under && nullable f) g p.1)
+are_stripped under (union f g) p = (λ n. cc, are_stripped under f p.0, are_stripped under g p.1)
+are_stripped under (star f) p = turned_stripped under true (normal true f) (own_base f p) (are_stripped true f p)
+are_stripped under (plus f) p = turned_stripped under (nullable f) (normal true f) (own_base f p) (are_stripped true f p)
+are_stripped under (optional f) p = opted_stripped under (normal under f) (are_stripped under f p)
+are_stripped under (marked f y) p = flagged (marking y (nullable f) (flags (normal under f))) (normal under f) (top_of (normal under f) (are_stripped under f p)) (are_stripped under f p)
+are_stripped under (repeated f m n) p = absurd p

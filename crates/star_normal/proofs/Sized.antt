@@ -10,15 +10,31 @@ use Rattle.star_normal.specs.declared.node.NodeKind.{NodeKind}
 use Rattle.star_normal.specs.declared.node.NodeKind.TheVariants.{Leaf, Seq, Alt}
 use Rattle.star_normal.specs.Trees.{Flags, FlaggedTree, leaf, leaves}
 use Rattle.star_normal.specs.Normal.{bare}
-use Rattle.star_normal.specs.Tables.{TreeTable, IsTree, parts, flags_of, form_at, form_by, form_of, forms}
-use Rattle.star_normal.specs.Building.{PartsBelow, leaf_one, of_node, part_hits}
-use Rattle.star_normal.specs.Tops.{plain_node}
+use Rattle.star_normal.specs.Tables.{TreeTable, IsTree, parts, is_leaf, plain_node, flags_of, form_at, form_by, form_of, forms}
+use Rattle.star_normal.specs.Assembly.{PartsBelow}
 use Rattle.star_normal.specs.Sizes.{size_at, size_of, AreSizes}
 use Rattle.star_normal.proofs.Made.{made_more, made_next}
-use Rattle.star_normal.proofs.NodeForms.{agree}
-use Rattle.star_normal.proofs.NodeTrees.{split_at}
-use Rattle.star_normal.proofs.Growing.{is_hit, not_hit}
-use Rattle.star_normal.proofs.Uniting.{count_uses}
+use Rattle.star_normal.proofs.Outlined.{split_at}
+use Rattle.star_normal.proofs.Assembled.{agree, is_hit, not_hit}
+
+-- a measure of a node's kind
+abbrev pub of_node : (NodeKind → ℕ) → Node → ℕ
+of_node v n = v n.kind
+
+abbrev pub leaf_one : NodeKind → ℕ
+leaf_one kind = cond (is_leaf kind) 1 0
+
+abbrev part_hits : ℕ → NodeKind → ℕ
+part_hits m kind = count_by (λ x. x == m) (parts kind)
+
+count_uses : (m : ℕ) (placed : List Node) → count_by (λ x. x == m) (flat_map (λ node. parts node.kind) placed) ≡ sum_by (of_node (part_hits m)) placed
+count_uses m [] = refl
+count_uses m (x ∷ placed) = omega (
+  arith,
+  sum_by-append (λ x. cond (x == m) 1 0) (parts x.kind) (flat_map (λ node. parts node.kind) placed),
+  sum_by-cons (of_node (part_hits m)) x placed,
+  count_uses m placed,
+)
 
 -- the sum of the first n values
 abbrev pub upto : (ℕ → ℕ) → ℕ → ℕ

@@ -1,12 +1,13 @@
 -- The symbols of a specification's expressions have numbers in its table.
-use Rattle.std.proofs.Common.{◌≡◌, ℕ, zero, suc, ◌+◌, ◌<◌, ◌≤◌, List, [], ◌∷◌, ◌++◌, map, flat_map, fold, length, slice_index_or, All, refl, arith}
+use Rattle.std.proofs.Common.{ℕ, zero, suc, ◌<◌, List, [], ◌∷◌, ◌++◌, map, flat_map, fold, length, All, arith}
 use Rattle.std.specs.List.{AllByRecursion}
+use Rattle.std.proofs.lemmas.List.Concat.{flat_map-append}
 use Rattle.std.proofs.lemmas.List.Elements.{All-append, All-from_recursion, recursion_from_All}
 use Rattle.rx_lang.specs.declared.expr_node.ExprNode.{ExprNode}
-use Rattle.rx_lang.specs.declared.expr_node.ExprNode.TheVariants.{Leaf, Seq, Alt, Star, Plus, Opt, Mark}
+use Rattle.rx_lang.specs.declared.expr_node.ExprNode.TheVariants.{Leaf, Seq, Alt, Star, Plus, Opt, Mark, Repeat}
 use Rattle.rx_lang.specs.Expression.{Expr, symbol}
+use Rattle.rx_lang.specs.Copies.{occurrences, times}
 use Rattle.rx_lang.specs.Tables.{Tables, IsSpecification, NamesEntries, tree_at, tree_of, trees, specification}
-use Rattle.star_normal.specs.Normal.{occurrences}
 
 -- every symbol of the expression has a number below this one
 abbrev Below : ℕ → Expr → Type 0
@@ -27,6 +28,10 @@ module _ (tables : Tables) (spec : IsSpecification tables) where
       by_recursion (e ∷ es) zero b = b.0
       by_recursion (e ∷ es) (suc j) b = by_recursion es j b.1
 
+  all_times : (n : ℕ) (xs : List ℕ) → All (λ s. s < m) xs → All (λ s. s < m) (times n xs)
+  all_times zero xs h = All-from_recursion (λ s. s < m) [] tt
+  all_times (suc n) xs h = All-append (λ s. s < m) xs (times n xs) h (all_times n xs h)
+
   one : (before : List Expr) → All (Below m) before → (node : ExprNode) → NamesEntries tables node → Below m (tree_of before node)
   one before h (Leaf s) named = All-from_recursion (λ x. x < m) (s ∷ []) (named, tt)
   one before h (Seq f g) named = All-append (λ s. s < m) (occurrences (tree_at before f)) (occurrences (tree_at before g)) (at before h f) (at before h g)
@@ -35,6 +40,7 @@ module _ (tables : Tables) (spec : IsSpecification tables) where
   one before h (Plus f) named = at before h f
   one before h (Opt f) named = at before h f
   one before h (Mark f y) named = at before h f
+  one before h (Repeat f k n) named = all_times n (occurrences (tree_at before f)) (at before h f)
 
   all_from : (nodes : List ExprNode) (before : List Expr) → All (Below m) before → AllByRecursion (NamesEntries tables) nodes
       → All (Below m) (fold (λ done node. done ++ tree_of done node ∷ []) before nodes)
@@ -53,5 +59,7 @@ module _ (tables : Tables) (spec : IsSpecification tables) where
       All-append (λ s. s < m) (occurrences (tree_at (trees tables.nodes) e)) (flat_map occurrences (map (tree_at (trees tables.nodes)) exprs))
       (at (trees tables.nodes) all_trees e) (statements exprs)
 
-  pub symbols_below : All (λ s. s < length tables.symbols) (flat_map occurrences (specification tables).statements)
-  symbols_below = statements tables.exprs
+  pub symbols_below : All (λ s. s < length tables.symbols) (flat_map occurrences ((specification tables).statements ++ (specification tables).scans))
+  symbols_below =
+      rw (flat_map-append occurrences (specification tables).statements (specification tables).scans)
+      (All-append (λ s. s < m) (flat_map occurrences (specification tables).statements) (flat_map occurrences (specification tables).scans) (statements tables.exprs) (statements tables.scans))

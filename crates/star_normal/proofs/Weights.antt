@@ -4,9 +4,8 @@ use Rattle.star_normal.specs.declared.node.Node.{Node}
 use Rattle.star_normal.specs.declared.node.NodeKind.{NodeKind}
 use Rattle.star_normal.specs.declared.node.NodeKind.TheVariants.{Leaf, Seq, Alt}
 use Rattle.star_normal.specs.Tables.{TreeTable, IsTree, parts}
-use Rattle.star_normal.specs.Building.{leaf_one}
 use Rattle.star_normal.specs.Sizes.{size_at, lighter, heavier, light_child, heavy_child, ShareLeaves}
-use Rattle.star_normal.proofs.Sized.{sum_pair, node_size}
+use Rattle.star_normal.proofs.Sized.{leaf_one, sum_pair, node_size}
 
 -- of two children
 record Shared (size : ℕ → ℕ) (light heavy total : ℕ) : Type 0 where

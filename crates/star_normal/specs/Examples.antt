@@ -1,11 +1,11 @@
 -- Expressions and their normal forms, and a table of nodes.
 use Rattle.std.specs.Prelude.{true, false, List, [], ◌∷◌}
-use Rattle.rx_lang.specs.Expression.{Expr, symbol, sequence, union, star, plus, optional, marked}
+use Rattle.rx_lang.specs.Expression.{Expr, symbol, sequence, union, star, plus, optional, marked, repeated}
 use Rattle.star_normal.specs.declared.node.Node.{Node}
 use Rattle.star_normal.specs.declared.node.NodeKind.TheVariants.{Leaf, Seq, Alt}
 use Rattle.star_normal.specs.Trees.{FlaggedTree, leaf, seq, alt}
 use Rattle.star_normal.specs.Normal.{bare, held, looped, emptied, marking, united}
-use Rattle.star_normal.specs.Tops.{plain_node}
+use Rattle.star_normal.specs.Tables.{plain_node}
 
 abbrev pub a : Expr
 a = symbol 0
@@ -59,6 +59,17 @@ marked_rows = row (star (marked a 0)) (leaf (looped true (marking 0 false bare))
     ∷ row (star (sequence (marked (star a) 0) (star b))) (alt (looped true bare) (leaf (marking 0 true bare) 0) (leaf bare 1))
     ∷ row (marked (plus (union (star (star a)) (optional b))) 0) (alt (marking 0 true (looped true bare)) (leaf bare 0) (leaf bare 1))
     ∷ row (united (marked a 0) (b ∷ c ∷ [])) (alt bare (alt bare (leaf (marking 0 false bare) 0) (leaf bare 1)) (leaf bare 2))
+    ∷ []
+
+-- a{1,1}, a{0,1}, a{2,3}, a{0,2}, (a?){2,2}, (a{0,2})*, ((a !y){1,2})*
+abbrev pub repeat_rows : List Row
+repeat_rows = row (repeated a 1 1) (leaf bare 0)
+    ∷ row (repeated a 0 1) (leaf (emptied bare) 0)
+    ∷ row (repeated a 2 3) (seq bare (leaf bare 0) (seq bare (leaf bare 0) (leaf (emptied bare) 0)))
+    ∷ row (repeated a 0 2) (seq (emptied bare) (leaf bare 0) (leaf (emptied bare) 0))
+    ∷ row (repeated (optional a) 2 2) (seq (held true) (leaf (emptied bare) 0) (leaf (emptied bare) 0))
+    ∷ row (star (repeated a 0 2)) (seq (looped true bare) (leaf bare 0) (leaf (emptied bare) 0))
+    ∷ row (star (repeated (marked a 0) 1 2)) (seq (looped true bare) (leaf (marking 0 false bare) 0) (leaf (marking 0 false (emptied bare)) 0))
     ∷ []
 
 -- the nodes of (a b | c) | a, where the last node but one is the second a

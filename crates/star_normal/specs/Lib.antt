@@ -1,11 +1,15 @@
+-- Definitions that public contracts cite:
 pub mod Trees
 pub mod Normal
 pub mod Shapes
 pub mod Tables
-pub mod Steps
-pub mod Passes
-pub mod Tops
-pub mod Building
 pub mod Sizes
 pub mod Laws
 pub mod Examples
+-- Definitions that serve private contracts alone:
+pub mod Signs
+pub mod Outlines
+pub mod Labels
+pub mod Tasks
+pub mod Unions
+pub mod Assembly

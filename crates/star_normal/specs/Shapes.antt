@@ -1,8 +1,8 @@
 -- What a normal form looks like: no loop over a part that spells the empty word, exact flags, leaves in order.
-use Rattle.std.specs.Prelude.{◌≡◌, ℕ, ◌+◌, Bool, true, false, IsTrue, Decides, List, [], ◌∷◌, length}
-use Rattle.rx_lang.specs.Expression.{Expr, symbol, sequence, union, star, plus, optional, marked}
-use Rattle.star_normal.specs.Trees.{Flags, FlaggedTree, leaf, seq, alt, leaves, TreeSpells}
-use Rattle.star_normal.specs.Normal.{nullable, occurrences}
+use Rattle.std.specs.Prelude.{◌≡◌, ℕ, ◌⊎◌, ◌+◌, Bool, true, false, if◌then◌else◌, IsTrue, Decides, [], length, Option, Some, None, ⊤}
+use Rattle.rx_lang.specs.Expression.{Expr, symbol, sequence, union, star, plus, optional, marked, repeated}
+use Rattle.star_normal.specs.Trees.{Flags, FlaggedTree, leaf, seq, alt, flags, leaves, TreeSpells}
+use Rattle.star_normal.specs.Normal.{nullable}
 
 -- a stripped sequence, from whether its parts spell the empty word, the parts, and the stripped parts
 abbrev pub strip_sequence : Bool → Bool → Expr → Expr → Expr → Expr → Expr
@@ -11,7 +11,7 @@ strip_sequence true false f g sf sg = sequence f sg
 strip_sequence false true f g sf sg = sequence sf g
 strip_sequence false false f g sf sg = sequence f g
 
--- The expression without the empty word and without its own loops, as it may stand below a loop.
+-- The expression without the empty word and without its own loops, as it may stand below a loop. It is read on copies.
 abbrev pub strip : Expr → Expr
 strip (symbol s) = symbol s
 strip (sequence f g) = strip_sequence (nullable f) (nullable g) f g (strip f) (strip g)
@@ -20,6 +20,7 @@ strip (star f) = strip f
 strip (plus f) = strip f
 strip (optional f) = strip f
 strip (marked f y) = marked (strip f) y
+strip (repeated f m n) = strip f
 
 abbrev pub plus_if : Bool → Expr → Expr
 plus_if true e = plus e
@@ -61,33 +62,61 @@ IsExact Is (leaf f s) = Decides f.eps (TreeSpells Is (leaf f s) [])
 IsExact Is (seq f l r) = Decides f.eps (TreeSpells Is (seq f l r) []) × IsExact Is l × IsExact Is r
 IsExact Is (alt f l r) = Decides f.eps (TreeSpells Is (alt f l r) []) × IsExact Is l × IsExact Is r
 
+-- no counted repeat occurs
+abbrev pub HasNoRepeat : Expr → Type 0
+HasNoRepeat (symbol s) = ⊤
+HasNoRepeat (sequence f g) = HasNoRepeat f × HasNoRepeat g
+HasNoRepeat (union f g) = HasNoRepeat f × HasNoRepeat g
+HasNoRepeat (star f) = HasNoRepeat f
+HasNoRepeat (plus f) = HasNoRepeat f
+HasNoRepeat (optional f) = HasNoRepeat f
+HasNoRepeat (marked f y) = HasNoRepeat f
+HasNoRepeat (repeated f m n) = ⊥
+
 -- the number of nodes
 abbrev pub size : FlaggedTree → ℕ
 size (leaf f s) = 1
 size (seq f l r) = size l + size r + 1
 size (alt f l r) = size l + size r + 1
 
--- The alphabet of occurrences: each is a letter of its own.
-abbrev pub IsItself : ℕ → ℕ → Type 0
-IsItself k x = k ≡ x
-
--- the expression with the numbers of its occurrences for their symbols, counted from k in the order of the text
-abbrev pub numbered : ℕ → Expr → Expr
-numbered k (symbol s) = symbol k
-numbered k (sequence f g) = sequence (numbered k f) (numbered (k + length (occurrences f)) g)
-numbered k (union f g) = union (numbered k f) (numbered (k + length (occurrences f)) g)
-numbered k (star f) = star (numbered k f)
-numbered k (plus f) = plus (numbered k f)
-numbered k (optional f) = optional (numbered k f)
-numbered k (marked f y) = marked (numbered k f) y
-
--- the expressions, their occurrences counted on from one to the next
-abbrev pub all_numbered : ℕ → List Expr → List Expr
-all_numbered k [] = []
-all_numbered k (e ∷ es) = numbered k e ∷ all_numbered (k + length (occurrences e)) es
-
 -- the tree with the numbers of its leaves for their symbols, counted from k from left to right
 abbrev pub tree_numbered : ℕ → FlaggedTree → FlaggedTree
 tree_numbered k (leaf f s) = leaf f k
 tree_numbered k (seq f l r) = seq f (tree_numbered k l) (tree_numbered (k + length (leaves l)) r)
 tree_numbered k (alt f l r) = alt f (tree_numbered k l) (tree_numbered (k + length (leaves l)) r)
+
+-- no node scans
+abbrev pub NeverScans : FlaggedTree → Type 0
+NeverScans (leaf f s) = f.scan ≡ false
+NeverScans (seq f l r) = (f.scan ≡ false) × NeverScans l × NeverScans r
+NeverScans (alt f l r) = (f.scan ≡ false) × NeverScans l × NeverScans r
+
+-- no node below the top scans
+abbrev pub ScansAtTop : FlaggedTree → Type 0
+ScansAtTop (leaf f s) = ⊤
+ScansAtTop (seq f l r) = NeverScans l × NeverScans r
+ScansAtTop (alt f l r) = NeverScans l × NeverScans r
+
+-- no loop and no marks
+pub record IsUnmarked (f : Flags) : Type 0 where
+  pub loops : f.loops ≡ false
+  pub marks : (y : ℕ) → f.marks y ≡ false
+  pub eps_marks : (y : ℕ) → f.eps_marks y ≡ false
+
+-- One node at most scans: the root, or the right part of a root that is a union, does not loop and bears no marks.
+abbrev pub HasOneScan : FlaggedTree → Type 0
+HasOneScan (leaf f s) = ⊤
+HasOneScan (seq f l r) = NeverScans l × NeverScans r
+HasOneScan (alt f l r) = NeverScans l × (NeverScans r ⊎ ((f.scan ≡ false) × IsUnmarked f × ScansAtTop r))
+
+-- the scan node, where there is one
+abbrev pub scan_part : FlaggedTree → Option FlaggedTree
+scan_part (leaf f s) = if f.scan then Some (leaf f s) else None
+scan_part (seq f l r) = if f.scan then Some (seq f l r) else None
+scan_part (alt f l r) = if f.scan then Some (alt f l r) else if (flags r).scan then Some r else None
+
+-- the rest of the tree beside it
+abbrev pub rest_part : FlaggedTree → Option FlaggedTree
+rest_part (leaf f s) = if f.scan then None else Some (leaf f s)
+rest_part (seq f l r) = if f.scan then None else Some (seq f l r)
+rest_part (alt f l r) = if f.scan then None else if (flags r).scan then Some l else Some (alt f l r)

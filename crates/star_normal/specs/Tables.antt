@@ -6,7 +6,8 @@ use Rattle.star_normal.specs.declared.node.NodeKind.{NodeKind}
 use Rattle.star_normal.specs.declared.node.NodeKind.TheVariants.{Leaf, Seq, Alt}
 use Rattle.star_normal.specs.Trees.{Flags, FlaggedTree, leaf, seq, alt}
 use Rattle.star_normal.specs.Normal.{bare}
-use Rattle.star_normal.specs.Shapes.{AreStripped, IsExact, IsItself}
+use Rattle.rx_lang.specs.Copies.{IsItself}
+use Rattle.star_normal.specs.Shapes.{AreStripped, IsExact, HasOneScan}
 
 -- the nodes, each behind its children, and the number of the root
 pub record TreeTable : Type 0 where
@@ -25,10 +26,15 @@ is_leaf (Leaf s) = true
 is_leaf (Seq left right) = false
 is_leaf (Alt left right) = false
 
+-- a node with no loop and no mark
+abbrev pub plain_node : NodeKind → Bool → Node
+plain_node kind e = record { kind = kind; loops = false; eps = e; scan = false; marks = 0; eps_marks = 0 }
+
 abbrev pub flags_of : Node → Flags
 flags_of node = record {
   loops = node.loops;
   eps = node.eps;
+  scan = node.scan;
   marks = λ y. bit_at node.marks y == 1;
   eps_marks = λ y. bit_at node.eps_marks y == 1;
 }
@@ -59,7 +65,7 @@ abbrev pub node_uses : TreeTable → List ℕ
 node_uses table = flat_map (λ node. parts node.kind) table.nodes ++ table.root ∷ []
 
 -- The table is one full binary tree: every node but the root is a child exactly once. The base of every loop is its own
--- strip, so no loop stands over the empty word, and eps is exact.
+-- strip, so no loop stands over the empty word, and eps is exact. One node at most scans.
 pub record IsTree (table : TreeTable) : Type 0 where
   pub some_leaves : 1 ≤ count_by (λ node. is_leaf node.kind) table.nodes
   pub few_leaves : count_by (λ node. is_leaf node.kind) table.nodes ≤ 4096
@@ -68,3 +74,4 @@ pub record IsTree (table : TreeTable) : Type 0 where
   pub used_once : (k : ℕ) → k < length table.nodes → count_by (λ x. x == k) (node_uses table) ≡ 1
   pub stripped : AreStripped (whole table)
   pub exact : IsExact IsItself (whole table)
+  pub scan : HasOneScan (whole table)

@@ -1,12 +1,13 @@
 -- Full binary trees whose nodes carry loops, the empty word and marks: which words they spell, and which they mark.
 use Rattle.std.specs.Prelude.{◌≡◌, ◌≢◌, ◌⊎◌, ℕ, Bool, true, false, IsTrue, List, [], ◌∷◌, ◌++◌}
-use Rattle.rx_lang.specs.Meaning.{Cut, Many}
+use Rattle.rx_lang.specs.Meaning.{Cut, Many, EndsIn}
 
--- Of a node: whether its base turns several times, whether it spells the empty word, the outputs that it marks for its
--- other words, and those that it marks for the empty word.
+-- Of a node: whether its base turns several times, whether it spells the empty word, whether its words may begin at any
+-- time, the outputs that it marks for its other words, and those that it marks for the empty word.
 pub record Flags : Type 0 where
   pub loops : Bool
   pub eps : Bool
+  pub scan : Bool
   pub marks : ℕ → Bool
   pub eps_marks : ℕ → Bool
 
@@ -44,6 +45,11 @@ module _ {X : Type 0} where
   Inside true B M u = Cut (Many B) M u
   Inside false B M u = M u
 
+  -- where words may begin at any time, the words with a rest in P, else those in P
+  abbrev pub BeginsAnywhere : Bool → (List X → Type 0) → List X → Type 0
+  BeginsAnywhere true P u = EndsIn P u
+  BeginsAnywhere false P u = P u
+
   -- the words of a node whose base has the words of B
   abbrev pub Words : Flags → (List X → Type 0) → List X → Type 0
   Words f B u = (IsTrue f.eps × (u ≡ [])) ⊎ Turns f.loops B u
@@ -58,14 +64,27 @@ module _ {X : Type 0} (Is : ℕ → X → Type 0) where
   abbrev pub Letter : ℕ → List X → Type 0
   Letter s u = (x : X) × (u ≡ x ∷ []) × Is s x
 
-  -- The tree spells the word.
+  -- The tree spells the word, its scan flags left aside.
   abbrev pub TreeSpells : FlaggedTree → List X → Type 0
   TreeSpells (leaf f s) u = Words f (Letter s) u
   TreeSpells (seq f l r) u = Words f (Cut (TreeSpells l) (TreeSpells r)) u
   TreeSpells (alt f l r) u = Words f (λ w. TreeSpells l w ⊎ TreeSpells r w) u
 
-  -- The word ends at a mark of output y in the tree.
+  -- The word ends at a mark of output y in the tree, its scan flags left aside.
   abbrev pub TreeMarks : FlaggedTree → ℕ → List X → Type 0
   TreeMarks (leaf f s) y u = Ends f (Letter s) (λ w. ⊥) y u
   TreeMarks (seq f l r) y u = Ends f (Cut (TreeSpells l) (TreeSpells r)) (λ w. TreeMarks l y w ⊎ Cut (TreeSpells l) (TreeMarks r y) w) y u
   TreeMarks (alt f l r) y u = Ends f (λ w. TreeSpells l w ⊎ TreeSpells r w) (λ w. TreeMarks l y w ⊎ TreeMarks r y w) y u
+
+  -- The tree spells the word: a scan node, which is the root or its right part, spells each word that ends in a word of it.
+  abbrev pub WholeSpells : FlaggedTree → List X → Type 0
+  WholeSpells (leaf f s) u = BeginsAnywhere f.scan (TreeSpells (leaf f s)) u
+  WholeSpells (seq f l r) u = BeginsAnywhere f.scan (TreeSpells (seq f l r)) u
+  WholeSpells (alt f l r) u = BeginsAnywhere f.scan (Words f (λ w. TreeSpells l w ⊎ BeginsAnywhere (flags r).scan (TreeSpells r) w)) u
+
+  -- The word ends at a mark of output y in the tree: at or below a scan node each word does that ends in a word marked there.
+  abbrev pub WholeMarks : FlaggedTree → ℕ → List X → Type 0
+  WholeMarks (leaf f s) y u = BeginsAnywhere f.scan (TreeMarks (leaf f s) y) u
+  WholeMarks (seq f l r) y u = BeginsAnywhere f.scan (TreeMarks (seq f l r) y) u
+  WholeMarks (alt f l r) y u = BeginsAnywhere f.scan
+      (Ends f (λ w. TreeSpells l w ⊎ BeginsAnywhere (flags r).scan (TreeSpells r) w) (λ w. TreeMarks l y w ⊎ BeginsAnywhere (flags r).scan (TreeMarks r y) w) y) u

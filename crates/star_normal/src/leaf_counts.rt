@@ -2,7 +2,7 @@
 
 ghost use Rattle.std.specs.Prelude.{◌≡◌, ◌<◌, ◌^◌, length, IfOk};
 ghost use Rattle.star_normal.specs.Sizes.{AreSizes, size_of};
-ghost use Rattle.star_normal.specs.Building.{PartsBelow};
+ghost use Rattle.star_normal.specs.Assembly.{PartsBelow};
 
 use crate::no_memory::NoMemory;
 use crate::node::NodeKind;

@@ -1,16 +1,17 @@
 //! The normal form of a specification: one full binary tree in which no loop stands over a part that spells the empty word.
 #![tactic(auto)]
 
-mod contexts;
-mod forest;
+mod assembly;
+mod labelling;
 pub mod laws;
-pub mod leaf_counts;
-pub mod no_memory;
-pub mod node;
-pub mod normal_form;
-mod nullable;
-mod tops;
-pub mod tree;
+mod leaf_counts;
+mod no_memory;
+mod node;
+mod normal_form;
+mod outlines;
+mod signs;
+mod statements;
+mod tree;
 
 pub use leaf_counts::sizes;
 pub use no_memory::NoMemory;

@@ -30,6 +30,8 @@ pub struct Node {
     pub loops: bool,
     /// Whether it spells the empty word.
     pub eps: bool,
+    /// Whether its words may begin at any time.
+    pub scan: bool,
     /// The outputs that it marks at each of its words that is not empty.
     pub marks: u16,
     /// The outputs that it marks at the empty word, wherever it or a further turn of it may begin.
