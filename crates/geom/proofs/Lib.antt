@@ -13,3 +13,4 @@ pub mod Chosen
 pub mod Talls
 pub mod Layers
 pub mod Joins
+mod CifSmall

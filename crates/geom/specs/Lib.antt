@@ -11,6 +11,7 @@ pub mod CifShapes
 pub mod CifDrawings
 pub mod CifCodes
 pub mod CifRefusals
+pub mod CifExamples
 -- Definitions that serve private contracts alone:
 pub mod Wholes
 pub mod Columns

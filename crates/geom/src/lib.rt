@@ -3,6 +3,7 @@
 
 pub mod chip;
 pub mod cif_code;
+pub mod cif_laws;
 pub mod layer;
 pub mod layer_box;
 pub mod merging;
@@ -18,6 +19,7 @@ mod sweep;
 
 pub use chip::{Call, Chip, Kind, Label, Rect};
 pub use cif_code::CifCode;
+pub use cif_laws::cif_examples;
 pub use layer::Layer;
 pub use layer_box::Box2;
 pub use merging::{merge_runs, merged_once};
