@@ -3,7 +3,7 @@ use Rattle.std.proofs.Common.{◌≡◌, ℕ, Bool, true, false, ◌==◌, ◌&&
 use Rattle.std.specs.Prelude.{codes}
 use Rattle.rx_text.specs.NumberInText.{is_digit}
 use Rattle.net_text.specs.Shape.{Shaped}
-use Rattle.net_text.specs.NetRefusals.{Begins, NumberBegins, Stands, NoneWithin}
+use Rattle.net_text.specs.NetRefusals.{BeginsNetText, NumberBegins, NetCodeStands, NoCodeWithin}
 use Rattle.net_text.specs.Stages.{InRange, Stage}
 use Rattle.net_text.specs.declared.net_fault.NetCode.{NetCode}
 use Rattle.net_text.specs.declared.net_fault.NetCode.TheVariants.{N1, N2, N3, N4, N5, N6}
@@ -11,7 +11,7 @@ use Rattle.net_text.proofs.Cuts.{Cuts, cuts}
 use Rattle.net_text.proofs.ReadBack.{both_true}
 
 -- what begins a text of the shape, a front of it does
-pub begins_front : (xs ys : List ℕ) → Begins (xs ++ ys) → Begins xs
+pub begins_front : (xs ys : List ℕ) → BeginsNetText (xs ++ ys) → BeginsNetText xs
 begins_front xs ys b = (ys ++ b.0, subst Shaped (append_assoc xs ys b.0) b.1)
 
 -- ---- bytes at which no number begins
@@ -70,19 +70,19 @@ no_number front xs c ys rest q n =
 
 module _ (nets : ℕ) (front rest w : List ℕ) (K G : List ℕ → Type 0) (stage : Stage nets front (w ++ rest) K G) where
   -- a text of the shape goes on so
-  begins : (tail : List ℕ) → K (w ++ tail) → Begins (front ++ w)
+  begins : (tail : List ℕ) → K (w ++ tail) → BeginsNetText (front ++ w)
   begins tail k = (tail, rw append_assoc (stage.back (w ++ tail) k))
 
   -- no code stands in these bytes
   none_in : (tail : List ℕ) → K (w ++ tail)
       → ((xs : List ℕ) (c : ℕ) (ys : List ℕ) → w ≡ xs ++ c ∷ ys → K xs → ⊥)
-      → ((xs : List ℕ) (c : ℕ) (ys : List ℕ) → w ≡ xs ++ c ∷ ys → Stands N2 (front ++ xs) (c ∷ ys ++ rest) → ⊥)
-      → ((xs : List ℕ) (c : ℕ) (ys : List ℕ) → w ≡ xs ++ c ∷ ys → Stands N5 (front ++ xs) (c ∷ ys ++ rest) → ⊥)
-      → (code : NetCode) (xs : List ℕ) (c : ℕ) (ys : List ℕ) → w ≡ xs ++ c ∷ ys → Stands code (front ++ xs) (c ∷ ys ++ rest) → ⊥
+      → ((xs : List ℕ) (c : ℕ) (ys : List ℕ) → w ≡ xs ++ c ∷ ys → NetCodeStands N2 (front ++ xs) (c ∷ ys ++ rest) → ⊥)
+      → ((xs : List ℕ) (c : ℕ) (ys : List ℕ) → w ≡ xs ++ c ∷ ys → NetCodeStands N5 (front ++ xs) (c ∷ ys ++ rest) → ⊥)
+      → (code : NetCode) (xs : List ℕ) (c : ℕ) (ys : List ℕ) → w ≡ xs ++ c ∷ ys → NetCodeStands code (front ++ xs) (c ∷ ys ++ rest) → ⊥
   none_in tail k whole two five N1 xs c ys e s =
       let same : front ++ w ≡ ((front ++ xs) ++ c ∷ []) ++ ys =
       ap (λ l. front ++ l) e ∙ sym (append_assoc front xs (c ∷ ys)) ∙ sym (append_assoc (front ++ xs) (c ∷ []) ys) in
-      s.2 c (ys ++ rest) refl (begins_front ((front ++ xs) ++ c ∷ []) ys (subst Begins same (begins tail k)))
+      s.2 c (ys ++ rest) refl (begins_front ((front ++ xs) ++ c ∷ []) ys (subst BeginsNetText same (begins tail k)))
   none_in tail k whole two five N2 xs c ys e s = two xs c ys e s
   none_in tail k whole two five N3 xs c ys e s = s
   none_in tail k whole two five N4 xs c ys e s = s
@@ -91,8 +91,8 @@ module _ (nets : ℕ) (front rest w : List ℕ) (K G : List ℕ → Type 0) (sta
 
   pub advance : (tail : List ℕ) → K (w ++ tail)
       → ((xs : List ℕ) (c : ℕ) (ys : List ℕ) → w ≡ xs ++ c ∷ ys → K xs → ⊥)
-      → ((xs : List ℕ) (c : ℕ) (ys : List ℕ) → w ≡ xs ++ c ∷ ys → Stands N2 (front ++ xs) (c ∷ ys ++ rest) → ⊥)
-      → ((xs : List ℕ) (c : ℕ) (ys : List ℕ) → w ≡ xs ++ c ∷ ys → Stands N5 (front ++ xs) (c ∷ ys ++ rest) → ⊥)
+      → ((xs : List ℕ) (c : ℕ) (ys : List ℕ) → w ≡ xs ++ c ∷ ys → NetCodeStands N2 (front ++ xs) (c ∷ ys ++ rest) → ⊥)
+      → ((xs : List ℕ) (c : ℕ) (ys : List ℕ) → w ≡ xs ++ c ∷ ys → NetCodeStands N5 (front ++ xs) (c ∷ ys ++ rest) → ⊥)
       → Stage nets (front ++ w) rest (λ tail. K (w ++ tail)) (λ tail. G (w ++ tail))
   advance tail k whole two five = record {
     to = λ tail s. stage.to (w ++ tail) (subst Shaped (append_assoc front w tail) s);
@@ -103,19 +103,19 @@ module _ (nets : ℕ) (front rest w : List ℕ) (K G : List ℕ → Type 0) (sta
     clear = clear;
   }
     where
-      clear : NoneWithin (front ++ w) rest
+      clear : NoCodeWithin (front ++ w) rest
       clear code before c others e s = by_place (cuts front w before (c ∷ others) e)
         where
           by_place : Cuts front w before (c ∷ others) → ⊥
           by_place (Cuts.same p q) =
-              none_in tail k whole two five code [] c others q (subst (λ l. Stands code l (c ∷ others ++ rest)) (sym p ∙ sym (append-nil front)) s)
+              none_in tail k whole two five code [] c others q (subst (λ l. NetCodeStands code l (c ∷ others ++ rest)) (sym p ∙ sym (append-nil front)) s)
           by_place (Cuts.before d vs p q) =
-              none_in tail k whole two five code (d ∷ vs) c others q (subst (λ l. Stands code l (c ∷ others ++ rest)) p s)
+              none_in tail k whole two five code (d ∷ vs) c others q (subst (λ l. NetCodeStands code l (c ∷ others ++ rest)) p s)
           by_place (Cuts.behind d vs p q) =
               stage.clear code before d vs p (stands d vs q)
             where
-              stands : (d : ℕ) (vs : List ℕ) → c ∷ others ≡ d ∷ vs ++ w → Stands code before (d ∷ vs ++ (w ++ rest))
-              stands d vs q = subst (λ l. Stands code before l) (ap (λ l. l ++ rest) q ∙ append_assoc (d ∷ vs) w rest) s
+              stands : (d : ℕ) (vs : List ℕ) → c ∷ others ≡ d ∷ vs ++ w → NetCodeStands code before (d ∷ vs ++ (w ++ rest))
+              stands d vs q = subst (λ l. NetCodeStands code before l) (ap (λ l. l ++ rest) q ∙ append_assoc (d ∷ vs) w rest) s
 
 -- the same stage, in other words
 pub restage : {K L G H : List ℕ → Type 0} (nets : ℕ) (front rest : List ℕ) → Stage nets front rest K G → ((tail : List ℕ) → K tail → L tail)
@@ -133,6 +133,6 @@ restage nets front rest stage there back ranged = record {
 
 -- The code is the first that stands, behind the front, and the text is no network's.
 pub record Stops (nets : ℕ) (code : NetCode) (front rest : List ℕ) : Type 0 where
-  pub stands : Stands code front rest
-  pub first : NoneWithin front rest
+  pub stands : NetCodeStands code front rest
+  pub first : NoCodeWithin front rest
   pub refuted : InRange nets (front ++ rest) → ⊥

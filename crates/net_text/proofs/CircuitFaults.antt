@@ -15,8 +15,8 @@ use Rattle.switch_net.specs.declared.network.Device.{Device}
 use Rattle.switch_net.specs.declared.network.Device.TheVariants.{Pass, Load}
 use Rattle.switch_net.specs.declared.network.BadNetwork.{BadNetwork}
 use Rattle.switch_net.specs.declared.network.BadNetwork.TheVariants.{NetOutOfRange, DoublePad, MissingPad}
-use Rattle.net_text.specs.NetworkText.{IsNetworkText}
-use Rattle.net_text.specs.NetRefusals.{Writes, CircuitFault}
+use Rattle.net_text.specs.NetworkText.{IsNetworkText, IsTextOf}
+use Rattle.net_text.specs.NetRefusals.{CircuitFault}
 use Rattle.net_text.specs.Steps.{IsRead, fault_in_line, fault_of_pads}
 use Rattle.net_text.specs.declared.net_fault.NetFault.{NetFault}
 use Rattle.net_text.specs.declared.net_fault.NetCode.TheVariants.{N3, N4}
@@ -69,9 +69,9 @@ module _ (text : List ℕ) (nets : ℕ) (pads : List Pad) (devices : List Device
       omega (arith, read.parts.few_parts, rw length-append at size, length-take-le read.before text read.parts.within)
 
   -- the text is that of the circuit
-  pub writes : Writes text (record { nets = nets; pads = pads; devices = devices })
-  writes = record {
-    text_of = read.whole ∙ ap (λ l. l ++ codes "end\n") read.parts.front;
+  pub text_of : IsTextOf text (record { nets = nets; pads = pads; devices = devices })
+  text_of = record {
+    text = read.whole ∙ ap (λ l. l ++ codes "end\n") read.parts.front;
     named = read.parts.named;
     few_nets = read.parts.few_nets;
   }
@@ -106,7 +106,6 @@ module _ (text : List ℕ) (nets : ℕ) (pads : List Pad) (devices : List Device
   -- without a fault it is a network's
   pub is_network_text : FaultlessIsNetwork → None ≡ first_fault nets pads devices → IsNetworkText text (record { nets = nets; pads = pads; devices = devices })
   is_network_text law e = record {
-    text = writes.text_of;
+    text_of = text_of;
     network = (law (record { nets = nets; pads = pads; devices = devices })).1 (sym e);
-    few_nets = read.parts.few_nets;
   }

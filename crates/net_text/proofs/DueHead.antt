@@ -3,10 +3,10 @@ use Rattle.std.proofs.Common.{◌≡◌, ℕ, ◌+◌, ◌<◌, nat_lt, Bool, tr
 use Rattle.std.specs.Prelude.{MatchResult, codes}
 use Rattle.std.proofs.lemmas.Bool.{ltb-true, ltb-false}
 use Rattle.std.proofs.lemmas.List.{length-take-le, take-append-drop}
-use Rattle.net_text.specs.Shape.{IsNumeral, DeviceLines, Lines, Shape, Shaped, head, front_number}
-use Rattle.net_text.specs.NetRefusals.{NoneWithin, Stands}
-use Rattle.net_text.specs.Reading.{agreeing, word_at, number_at}
-use Rattle.net_text.specs.Stages.{IsBelow, InRange, Part, Stage, DueAt, LinesDue}
+use Rattle.net_text.specs.Shape.{IsNumeral, DeviceLines, PadLines, Shape, Shaped, head, front_number}
+use Rattle.net_text.specs.NetRefusals.{NoCodeWithin, NetCodeStands}
+use Rattle.net_text.specs.Reading.{agreeing, word_at, number_due}
+use Rattle.net_text.specs.Stages.{IsNumeralBelow, InRange, Part, Stage, DueAt, LinesDue}
 use Rattle.net_text.specs.declared.net_fault.NetCode.TheVariants.{N1, N2, N5}
 use Rattle.net_text.proofs.Advancing.{advance, restage}
 use Rattle.net_text.proofs.Agreeing.{agree_take, agree_within, agree_whole}
@@ -22,20 +22,20 @@ some_text = record {
   more = codes "end\n";
   is = refl;
   counted = (refl, refl, λ e. refl);
-  lines = Lines.devices (codes "end\n") (DeviceLines.end (codes "end\n") refl);
+  lines = PadLines.devices (codes "end\n") (DeviceLines.end (codes "end\n") refl);
 }
 
 -- nothing was read
 start : (nets : ℕ) (text : List ℕ) → Stage nets [] text Shaped (InRange nets)
 start nets text = record { to = λ tail s. s; back = λ tail s. s; ranged = λ tail s. s; tail = head ++ 48 ∷ codes "\nend\n"; some = some_text; clear = clear }
   where
-    clear : NoneWithin [] text
+    clear : NoCodeWithin [] text
     clear code [] byte others e s = cc
     clear code (x ∷ before) byte others e s = cc
 
 -- what is due behind the word of the head
 abbrev pub CountDue : (List ℕ → Type 0) → (List ℕ → Type 0) → List ℕ → Type 0
-CountDue IsCount IsNumber = Part IsCount 10 (Lines IsNumber)
+CountDue IsCount IsNumber = Part IsCount 10 (PadLines IsNumber)
 
 module _ (Count Number : List ℕ → Type 0) where
   to_count : (tail : List ℕ) → Shape Count Number (head ++ tail) → CountDue Count Number tail
@@ -65,7 +65,7 @@ module _ (Count Number : List ℕ → Type 0) where
 -- What stands behind the word of the head.
 pub record HeadRead (nets : ℕ) (text : List ℕ) (next : ℕ) : Type 0 where
   pub moved : Moved text 0 next head
-  pub stage : Stage nets (take next text) (drop next text) (CountDue IsNumeral IsNumeral) (CountDue (IsBelow 16777217) (IsBelow nets))
+  pub stage : Stage nets (take next text) (drop next text) (CountDue IsNumeral IsNumeral) (CountDue (IsNumeralBelow 16777217) (IsNumeralBelow nets))
 
 -- the head is no front of itself
 no_front : (more : List ℕ) (c : ℕ) (ys : List ℕ) → head ≡ head ++ (more ++ c ∷ ys) → ⊥
@@ -73,12 +73,12 @@ no_front [] c ys e = no_longer head c ys e
 no_front (x ∷ more) c ys e = no_longer head x (more ++ c ∷ ys) e
 
 -- no number stands in the head
-no_two : (xs : List ℕ) (c : ℕ) (ys rest : List ℕ) → head ≡ xs ++ c ∷ ys → Stands N2 xs rest → ⊥
+no_two : (xs : List ℕ) (c : ℕ) (ys rest : List ℕ) → head ≡ xs ++ c ∷ ys → NetCodeStands N2 xs rest → ⊥
 no_two xs c ys rest e s =
     let (more, f, some, large) = s.1 in
     no_front more c ys (e ∙ ap (λ l. l ++ c ∷ ys) f ∙ append_assoc head more (c ∷ ys))
 
-no_five : (xs : List ℕ) (c : ℕ) (ys rest : List ℕ) → head ≡ xs ++ c ∷ ys → Stands N5 xs rest → ⊥
+no_five : (xs : List ℕ) (c : ℕ) (ys rest : List ℕ) → head ≡ xs ++ c ∷ ys → NetCodeStands N5 xs rest → ⊥
 no_five xs c ys rest e s = no_longer head c ys (e ∙ ap (λ l. l ++ c ∷ ys) s.1)
 
 module _ (nets : ℕ) (text : List ℕ) where
@@ -94,7 +94,7 @@ module _ (nets : ℕ) (text : List ℕ) where
       no_front more c ys (e ∙ ap (λ l. l ++ c ∷ ys) f ∙ append_assoc head more (c ∷ ys)))
       (λ xs c ys e s. no_two xs c ys (c ∷ ys ++ behind) e s) (λ xs c ys e s. no_five xs c ys (c ∷ ys ++ behind) e s))
       (λ tail s. to_count IsNumeral IsNumeral tail s) (λ tail k. of_count IsNumeral IsNumeral tail k)
-      (λ tail s. to_count (IsBelow 16777217) (IsBelow nets) tail s) in
+      (λ tail s. to_count (IsNumeralBelow 16777217) (IsNumeralBelow nets) tail s) in
       record { moved = there; stage = rw (there.front, rest_is) stage }
 
   -- it does not
@@ -134,7 +134,7 @@ module _ (nets : ℕ) (text : List ℕ) where
 
   -- the number of nets, and the line feed
   pub count_read : (at : ℕ) → HeadRead nets text at
-      → MatchResult (number_at 16777217 N5 (10 ∷ []) at text) (NumberRead nets text at (Lines IsNumeral) (Lines (IsBelow nets))) (Stopped nets text)
+      → MatchResult (number_due 16777217 N5 (10 ∷ []) at text) (NumberRead nets text at (PadLines IsNumeral) (PadLines (IsNumeralBelow nets))) (Stopped nets text)
   count_read at h =
       number_read nets 16777217 10 N5 refl text at h.moved.within (codes "rxnet 1\nnets", h.moved.front)
       (λ n large. (n, h.moved.front, omega (arith, large)))
@@ -142,7 +142,7 @@ module _ (nets : ℕ) (text : List ℕ) where
       (λ small s. omega (arith, small, s.2)) h.stage
 
   -- what is due behind it, where it was read
-  pub lines_due : (at next : ℕ) → HeadRead nets text at → NumberRead nets text at (Lines IsNumeral) (Lines (IsBelow nets)) (nets, next)
+  pub lines_due : (at next : ℕ) → HeadRead nets text at → NumberRead nets text at (PadLines IsNumeral) (PadLines (IsNumeralBelow nets)) (nets, next)
       → DueAt nets text next (LinesDue true)
   lines_due at next h n = record {
     stage = n.stage;

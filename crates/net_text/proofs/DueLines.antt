@@ -6,7 +6,7 @@ use Rattle.std.proofs.lemmas.List.{length-take-le, take-append-drop}
 use Rattle.net_text.specs.Shape.{IsNumeral}
 use Rattle.net_text.specs.NetRefusals.{NumberBegins}
 use Rattle.net_text.specs.Reading.{agreeing, longest, first_lines, later_lines, line_word, begins_line, line_found, line_at}
-use Rattle.net_text.specs.Stages.{IsBelow, BehindWord, LinesDue, Stage, DueAt}
+use Rattle.net_text.specs.Stages.{IsNumeralBelow, BehindWord, LinesDue, Stage, DueAt}
 use Rattle.net_text.specs.declared.line_kind.LineKind.{LineKind}
 use Rattle.net_text.specs.declared.line_kind.LineKind.TheVariants.{Pass}
 use Rattle.net_text.specs.declared.net_fault.NetCode.TheVariants.{N1}
@@ -41,15 +41,15 @@ no_front kind other xs c ys behind e f =
 module _ (nets : ℕ) (b : Bool) (front : List ℕ) where
   -- behind the word of a line
   line_step : (rest : List ℕ) (kind : LineKind) → Among (kinds_due b) kind
-      → Stage nets front (line_word kind ++ rest) (LinesDue b IsNumeral) (LinesDue b (IsBelow nets))
-      → Stage nets (front ++ line_word kind) rest (BehindWord kind IsNumeral) (BehindWord kind (IsBelow nets))
+      → Stage nets front (line_word kind ++ rest) (LinesDue b IsNumeral) (LinesDue b (IsNumeralBelow nets))
+      → Stage nets (front ++ line_word kind) rest (BehindWord kind IsNumeral) (BehindWord kind (IsNumeralBelow nets))
   line_step rest kind among stage =
       restage nets (front ++ line_word kind) rest
-      (advance nets front rest (line_word kind) (LinesDue b IsNumeral) (LinesDue b (IsBelow nets)) stage some.0
+      (advance nets front rest (line_word kind) (LinesDue b IsNumeral) (LinesDue b (IsNumeralBelow nets)) stage some.0
       (from_word IsNumeral b kind some.0 among some.1)
       (λ xs c ys e k. let word = by_word IsNumeral b xs k in no_front kind word.kind xs c ys word.behind e word.is)
       (λ xs c ys e s. quiet_in xs c ys e s.0) (λ xs c ys e s. quiet_in xs c ys e s.0))
-      (λ tail k. behind IsNumeral tail k) (λ tail k. from_word IsNumeral b kind tail among k) (λ tail k. behind (IsBelow nets) tail k)
+      (λ tail k. behind IsNumeral tail k) (λ tail k. from_word IsNumeral b kind tail among k) (λ tail k. behind (IsNumeralBelow nets) tail k)
     where
       some : (t : List ℕ) × BehindWord kind IsNumeral t
       some = some_behind kind

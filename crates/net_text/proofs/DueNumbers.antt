@@ -3,8 +3,8 @@ use Rattle.std.proofs.Common.{◌≡◌, ℕ, ◌≤◌, true, false, List, [], 
 use Rattle.std.specs.Str.Parse.{digits_value}
 use Rattle.rx_text.specs.NumberInText.{is_digit}
 use Rattle.net_text.specs.Shape.{IsNumeral, Shaped, numeral_length, front_number}
-use Rattle.net_text.specs.NetRefusals.{NumberBegins, Stands}
-use Rattle.net_text.specs.Stages.{IsBelow, Part, Stage, EndsInSpace}
+use Rattle.net_text.specs.NetRefusals.{NumberBegins, NetCodeStands}
+use Rattle.net_text.specs.Stages.{IsNumeralBelow, Part, Stage, EndsInSpace}
 use Rattle.net_text.specs.declared.net_fault.NetCode.{NetCode}
 use Rattle.net_text.specs.declared.net_fault.NetCode.TheVariants.{N1, N2, N5}
 use Rattle.net_text.proofs.Advancing.{Stops, quiet_at, after_space_second}
@@ -17,7 +17,7 @@ pub front_number_of : (digits : List ℕ) (c : ℕ) (rest : List ℕ) → IsNume
 front_number_of digits c rest n d = rw (numeral_front digits c rest n d, take_front digits (c ∷ rest)) refl
 
 -- in a number no code stands, if none does at its first digit
-module _ (front digits rest : List ℕ) (numeral : IsNumeral digits) (two : Stands N2 front (digits ++ rest) → ⊥) (five : Stands N5 front (digits ++ rest) → ⊥) where
+module _ (front digits rest : List ℕ) (numeral : IsNumeral digits) (two : NetCodeStands N2 front (digits ++ rest) → ⊥) (five : NetCodeStands N5 front (digits ++ rest) → ⊥) where
   inside : (x : ℕ) (xs : List ℕ) (c : ℕ) (ys : List ℕ) → digits ≡ x ∷ xs ++ c ∷ ys → NumberBegins (front ++ x ∷ xs) (c ∷ ys ++ rest) → ⊥
   inside x xs c ys e n =
       let here = n.here in
@@ -25,14 +25,14 @@ module _ (front digits rest : List ℕ) (numeral : IsNumeral digits) (two : Stan
       quiet_at false (x ∷ xs) c ys (rw e at (numeral_quiet digits (numeral_digits digits numeral)))
       (after_space_second true front (x ∷ xs) n.before n.space) (rw same n.valid)
 
-  at_first : (code : NetCode) (c : ℕ) (ys : List ℕ) → digits ≡ c ∷ ys → Stands code (front ++ []) (c ∷ ys ++ rest) → Stands code front (digits ++ rest)
-  at_first code c ys e s = rw e (subst (λ l. Stands code l (c ∷ ys ++ rest)) (append-nil front) s)
+  at_first : (code : NetCode) (c : ℕ) (ys : List ℕ) → digits ≡ c ∷ ys → NetCodeStands code (front ++ []) (c ∷ ys ++ rest) → NetCodeStands code front (digits ++ rest)
+  at_first code c ys e s = rw e (subst (λ l. NetCodeStands code l (c ∷ ys ++ rest)) (append-nil front) s)
 
-  no_two : (xs : List ℕ) (c : ℕ) (ys : List ℕ) → digits ≡ xs ++ c ∷ ys → Stands N2 (front ++ xs) (c ∷ ys ++ rest) → ⊥
+  no_two : (xs : List ℕ) (c : ℕ) (ys : List ℕ) → digits ≡ xs ++ c ∷ ys → NetCodeStands N2 (front ++ xs) (c ∷ ys ++ rest) → ⊥
   no_two [] c ys e s = two (at_first N2 c ys e s)
   no_two (x ∷ xs) c ys e s = inside x xs c ys e s.0
 
-  no_five : (xs : List ℕ) (c : ℕ) (ys : List ℕ) → digits ≡ xs ++ c ∷ ys → Stands N5 (front ++ xs) (c ∷ ys ++ rest) → ⊥
+  no_five : (xs : List ℕ) (c : ℕ) (ys : List ℕ) → digits ≡ xs ++ c ∷ ys → NetCodeStands N5 (front ++ xs) (c ∷ ys ++ rest) → ⊥
   no_five [] c ys e s = five (at_first N5 c ys e s)
   no_five (x ∷ xs) c ys e s = inside x xs c ys e s.0
 
@@ -45,7 +45,7 @@ module _ {K G : List ℕ → Type 0} (nets limit last : ℕ) (no_digit : is_digi
       (λ c others token e n. let clash : true ≡ false = sym n.0 ∙ none c others e in cc)
 
   -- a digit does
-  begins : (c : ℕ) (others : List ℕ) → Stage nets front (c ∷ others) (Part IsNumeral last K) (Part (IsBelow limit) last G) → is_digit c ≡ true
+  begins : (c : ℕ) (others : List ℕ) → Stage nets front (c ∷ others) (Part IsNumeral last K) (Part (IsNumeralBelow limit) last G) → is_digit c ≡ true
       → EndsInSpace front → NumberBegins front (c ∷ others)
   begins c others stage digit space =
       let shaped = stage.back (c ∷ last ∷ stage.some.behind)
@@ -61,9 +61,9 @@ module _ {K G : List ℕ → Type 0} (nets limit last : ℕ) (no_digit : is_digi
       }
 
   -- the number here is not below the limit
-  pub numeral_too_large : (code : NetCode) (c : ℕ) (others : List ℕ) → Stage nets front (c ∷ others) (Part IsNumeral last K) (Part (IsBelow limit) last G)
+  pub numeral_too_large : (code : NetCode) (c : ℕ) (others : List ℕ) → Stage nets front (c ∷ others) (Part IsNumeral last K) (Part (IsNumeralBelow limit) last G)
       → is_digit c ≡ true → EndsInSpace front → limit ≤ front_number (c ∷ others)
-      → (NumberBegins front (c ∷ others) → Stands code front (c ∷ others)) → Stops nets code front (c ∷ others)
+      → (NumberBegins front (c ∷ others) → NetCodeStands code front (c ∷ others)) → Stops nets code front (c ∷ others)
   numeral_too_large code c others stage digit space large stands = record {
     stands = stands (begins c others stage digit space);
     first = stage.clear;
@@ -76,8 +76,8 @@ module _ {K G : List ℕ → Type 0} (nets limit last : ℕ) (no_digit : is_digi
   }
 
   -- the byte that ends a number does not stand behind this one
-  pub numeral_stop : (digits rest : List ℕ) → IsNumeral digits → (Stands N2 front (digits ++ rest) → ⊥) → (Stands N5 front (digits ++ rest) → ⊥)
-      → Stage nets front (digits ++ rest) (Part IsNumeral last K) (Part (IsBelow limit) last G) → numeral_length (digits ++ rest) ≡ length digits
+  pub numeral_stop : (digits rest : List ℕ) → IsNumeral digits → (NetCodeStands N2 front (digits ++ rest) → ⊥) → (NetCodeStands N5 front (digits ++ rest) → ⊥)
+      → Stage nets front (digits ++ rest) (Part IsNumeral last K) (Part (IsNumeralBelow limit) last G) → numeral_length (digits ++ rest) ≡ length digits
       → ((others : List ℕ) → rest ≡ last ∷ others → ⊥) → Stops nets N1 (front ++ digits) rest
   numeral_stop digits rest numeral two five stage whole other =
       token_stop IsNumeral is_digit last no_digit numeral_digits nets front digits numeral (λ d below. below.0) rest stage
@@ -85,8 +85,8 @@ module _ {K G : List ℕ → Type 0} (nets limit last : ℕ) (no_digit : is_digi
       (λ c others more e longer. numeral_longest digits c others more numeral (rw e at whole) longer) other
 
   -- it does
-  pub numeral_step : (digits rest : List ℕ) → IsNumeral digits → (Stands N2 front (digits ++ last ∷ rest) → ⊥) → (Stands N5 front (digits ++ last ∷ rest) → ⊥)
-      → Stage nets front (digits ++ last ∷ rest) (Part IsNumeral last K) (Part (IsBelow limit) last G) → Stage nets ((front ++ digits) ++ last ∷ []) rest K G
+  pub numeral_step : (digits rest : List ℕ) → IsNumeral digits → (NetCodeStands N2 front (digits ++ last ∷ rest) → ⊥) → (NetCodeStands N5 front (digits ++ last ∷ rest) → ⊥)
+      → Stage nets front (digits ++ last ∷ rest) (Part IsNumeral last K) (Part (IsNumeralBelow limit) last G) → Stage nets ((front ++ digits) ++ last ∷ []) rest K G
   numeral_step digits rest numeral two five stage =
       token_step IsNumeral is_digit last no_digit numeral_digits nets front digits numeral (λ d below. below.0) rest stage
       (no_two front digits (last ∷ rest) numeral two five) (no_five front digits (last ∷ rest) numeral two five) no_digit

@@ -6,7 +6,7 @@ use Rattle.rx_text.specs.Role.{bears_name}
 use Rattle.rx_text.specs.declared.pad_name.Role.{Role}
 use Rattle.rx_text.specs.declared.pad_name.Role.TheVariants.{Vdd, Gnd, Phi1, Phi2, Reset, Input, Output}
 use Rattle.net_text.specs.NetworkText.{role_word, name_part}
-use Rattle.net_text.specs.Shape.{IsNumeral, DeviceLines, Lines}
+use Rattle.net_text.specs.Shape.{IsNumeral, DeviceLines, PadLines}
 use Rattle.net_text.specs.Reading.{line_word, first_lines, later_lines}
 use Rattle.net_text.specs.Stages.{IsName, Part, PadNet, BehindRole, BehindWord, LinesDue}
 use Rattle.net_text.specs.declared.line_kind.LineKind.{LineKind}
@@ -163,8 +163,8 @@ module _ (N : List ℕ → Type 0) where
   -- lines that may follow begin with such a word
   pub by_word : (b : Bool) (text : List ℕ) → LinesDue b N text → WordDue b N text
   by_word false text lines = device_word false text lines
-  by_word true text (Lines.devices t lines) = device_word true t lines
-  by_word true text (Lines.pad t role name net more e bears valid n lines) =
+  by_word true text (PadLines.devices t lines) = device_word true t lines
+  by_word true text (PadLines.pad t role name net more e bears valid n lines) =
       pad_word t role name net more e bears valid (record { part = net; behind = more; is = refl; fits = n; more = lines })
 
   -- the text of a pad's line
@@ -179,17 +179,17 @@ module _ (N : List ℕ → Type 0) where
       append_assoc (role_word role) (codes " ") text ∙ ap (λ l. role_word role ++ 32 ∷ l) e ∙ sym (pad_text (role_word role) (32 ∷ name) net more)
 
   -- and behind such a word they go on so
-  plain_line : (role : Role) (text : List ℕ) → bears_name role ≡ false → PadNet N text → Lines N (line_word (Pad role) ++ text)
+  plain_line : (role : Role) (text : List ℕ) → bears_name role ≡ false → PadNet N text → PadLines N (line_word (Pad role) ++ text)
   plain_line role text bears h =
-      Lines.pad (line_word (Pad role) ++ text) role None h.part h.behind
+      PadLines.pad (line_word (Pad role) ++ text) role None h.part h.behind
       (plain_text role text h.part h.behind h.is) bears tt h.fits h.more
 
-  named_line : (role : Role) (text : List ℕ) → bears_name role ≡ true → Part IsName 32 (PadNet N) text → Lines N (line_word (Pad role) ++ text)
+  named_line : (role : Role) (text : List ℕ) → bears_name role ≡ true → Part IsName 32 (PadNet N) text → PadLines N (line_word (Pad role) ++ text)
   named_line role text bears h =
-      Lines.pad (line_word (Pad role) ++ text) role (Some h.part) h.more.part h.more.behind
+      PadLines.pad (line_word (Pad role) ++ text) role (Some h.part) h.more.part h.more.behind
       (named_text role text h.part h.more.part h.more.behind (h.is ∙ ap (λ l. h.part ++ 32 ∷ l) h.more.is)) bears h.fits h.more.fits h.more.more
 
-  pad_line_of : (role : Role) (text : List ℕ) → BehindRole role N text → Lines N (line_word (Pad role) ++ text)
+  pad_line_of : (role : Role) (text : List ℕ) → BehindRole role N text → PadLines N (line_word (Pad role) ++ text)
   pad_line_of Vdd text h = plain_line Vdd text refl h
   pad_line_of Gnd text h = plain_line Gnd text refl h
   pad_line_of Phi1 text h = plain_line Phi1 text refl h
@@ -207,7 +207,7 @@ module _ (N : List ℕ → Type 0) where
   load_text text net more e = rw e (simp append_assoc refl)
 
   due_devices : (b : Bool) (text : List ℕ) → DeviceLines N text → LinesDue b N text
-  due_devices true text h = Lines.devices text h
+  due_devices true text h = PadLines.devices text h
   due_devices false text h = h
 
   pub from_word : (b : Bool) (kind : LineKind) (text : List ℕ) → Among (kinds_due b) kind → BehindWord kind N text → LinesDue b N (line_word kind ++ text)
@@ -238,7 +238,7 @@ some_end : DeviceLines IsNumeral (codes "end\n")
 some_end = DeviceLines.end (codes "end\n") refl
 
 some_pad : (t : List ℕ) × PadNet IsNumeral t
-some_pad = (_, some_number 10 _ (Lines.devices _ some_end))
+some_pad = (_, some_number 10 _ (PadLines.devices _ some_end))
 
 some_name : (t : List ℕ) × Part IsName 32 (PadNet IsNumeral) t
 some_name = (97 ∷ 32 ∷ some_pad.0, record { part = 97 ∷ []; behind = some_pad.0; is = refl; fits = refl; more = some_pad.1 })

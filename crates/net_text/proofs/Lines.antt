@@ -5,8 +5,8 @@ use Rattle.std.proofs.lemmas.Grind.{flat_map-append}
 use Rattle.std.specs.Prelude.{IsErr}
 use Rattle.std.specs.List.{flat_map}
 use Rattle.rx_io.specs.Streams.{AppendsFront}
-use Rattle.net_text.specs.Gathered.{Gathers, Puts}
-use Rattle.net_text.proofs.Gathering.{Gathers-trans, Puts-failed}
+use Rattle.net_text.specs.Gathered.{Gathers, PutsBehind}
+use Rattle.net_text.proofs.Gathering.{Gathers-trans, PutsBehind-failed}
 
 module _ {X : Type 0} (line : X → List ℕ) (xs : List X) (i : ℕ) (x d : X) (within : i < length xs) (is : x ≡ get_or xs i d) where
   -- the lines as far as this one
@@ -27,6 +27,6 @@ module _ {X : Type 0} (line : X → List ℕ) (xs : List X) (i : ℕ) (x d : X) 
   Gathers-line before now = rw lines_more (Gathers-trans before now)
 
   -- the line failed
-  pub Puts-line_failed : {A E : Type 0} {a b : Option (List ℕ)} {p q : List ℕ} (result : Result A E) (c : Option (List ℕ)) (r : List ℕ) → IsErr result
-      → Gathers a b p q (flat_map line (take i xs)) → AppendsFront b c (q ++ line x) → Puts result a c p r (flat_map line xs)
-  Puts-line_failed result c r err before now = rw lines_around (Puts-failed result c r (line x) (flat_map line (drop (i + 1) xs)) err before now)
+  pub PutsBehind-line_failed : {A E : Type 0} {a b : Option (List ℕ)} {p q : List ℕ} (result : Result A E) (c : Option (List ℕ)) (r : List ℕ) → IsErr result
+      → Gathers a b p q (flat_map line (take i xs)) → AppendsFront b c (q ++ line x) → PutsBehind result a c p r (flat_map line xs)
+  PutsBehind-line_failed result c r err before now = rw lines_around (PutsBehind-failed result c r (line x) (flat_map line (drop (i + 1) xs)) err before now)

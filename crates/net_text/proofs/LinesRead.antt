@@ -24,7 +24,7 @@ use Rattle.net_text.specs.declared.line_kind.LineKind.TheVariants as kind
 use Rattle.std.proofs.lemmas.Grind.{flat_map-append}
 use Rattle.std.proofs.lemmas.List.Elements.{All-push}
 use Rattle.net_text.specs.Steps.{IsRead, no_devices}
-use Rattle.net_text.specs.NetRefusals.{NoneStands}
+use Rattle.net_text.specs.NetRefusals.{NoCodeStands}
 use Rattle.net_text.specs.Stages.{PadNet, BehindRole, BehindWord, LinesDue, DueAt, IsFirst, Stage}
 use Rattle.net_text.specs.declared.net_fault.NetCode.TheVariants.{N6}
 use Rattle.net_text.proofs.DueLines.{first_word_read}
@@ -181,7 +181,7 @@ pub end_read : {text : List ℕ} {at next nets : ℕ} {pads : List Pad} {devices
 end_read {text} {at} {next} {nets} before reads end due =
     record { before = at; parts = before; whole = sym (take_all next text end) ∙ reads.front; clear = clear }
   where
-    clear : NoneStands text
+    clear : NoCodeStands text
     clear =
         let stage : Stage nets text [] (λ tail. tail ≡ []) (λ tail. tail ≡ []) = rw (take_all next text end, drop_all next text end) at due.stage in
         none_stands nets text stage

@@ -1,6 +1,6 @@
 -- Words, of which one is due, and none stands.
 use Rattle.std.proofs.Common.{◌≡◌, ℕ, ◌<◌, ◌≤◌, List, [], ◌∷◌, ◌++◌, length, refl, sym, ap, ◌∙◌, subst, append_assoc, append-nil, arith}
-use Rattle.net_text.specs.NetRefusals.{Stands}
+use Rattle.net_text.specs.NetRefusals.{NetCodeStands}
 use Rattle.net_text.specs.Reading.{agreeing}
 use Rattle.net_text.specs.Stages.{Stage}
 use Rattle.net_text.specs.declared.net_fault.NetCode.TheVariants.{N1, N2, N5}
@@ -18,8 +18,8 @@ module _ {K G : List ℕ → Type 0} (nets : ℕ) (front w rest : List ℕ) (sta
     (each : (text : List ℕ) → K text → (v : List ℕ) × (behind : List ℕ) × IsWord v × (text ≡ v ++ behind))
     (missing : (v : List ℕ) → IsWord v → agreeing v (w ++ rest) ≡ length v → ⊥)
     (most : (v : List ℕ) → IsWord v → agreeing v (w ++ rest) ≤ length w)
-    (two : (xs : List ℕ) (c : ℕ) (ys : List ℕ) → w ≡ xs ++ c ∷ ys → Stands N2 (front ++ xs) (c ∷ ys ++ rest) → ⊥)
-    (five : (xs : List ℕ) (c : ℕ) (ys : List ℕ) → w ≡ xs ++ c ∷ ys → Stands N5 (front ++ xs) (c ∷ ys ++ rest) → ⊥) where
+    (two : (xs : List ℕ) (c : ℕ) (ys : List ℕ) → w ≡ xs ++ c ∷ ys → NetCodeStands N2 (front ++ xs) (c ∷ ys ++ rest) → ⊥)
+    (five : (xs : List ℕ) (c : ℕ) (ys : List ℕ) → w ≡ xs ++ c ∷ ys → NetCodeStands N5 (front ++ xs) (c ∷ ys ++ rest) → ⊥) where
   -- the text begins with none of the words
   none_begins : (v z : List ℕ) → IsWord v → w ++ rest ≡ v ++ z → ⊥
   none_begins v z is e = missing v is (rw e (agree_front v z))

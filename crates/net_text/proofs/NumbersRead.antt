@@ -6,9 +6,9 @@ use Rattle.std.proofs.lemmas.Bool.{cases_Bool, ltb-true, ltb-false, eqb-true, eq
 use Rattle.std.proofs.lemmas.List.{length-append, length-take-le, take-append-drop}
 use Rattle.rx_text.specs.NumberInText.{is_digit}
 use Rattle.net_text.specs.Shape.{IsNumeral, numeral_length, front_number}
-use Rattle.net_text.specs.NetRefusals.{NumberBegins, Stands}
-use Rattle.net_text.specs.Reading.{word_at, number_of, number_below, number_then, number_at, with_read}
-use Rattle.net_text.specs.Stages.{IsBelow, Part, Stage, EndsInSpace}
+use Rattle.net_text.specs.NetRefusals.{NumberBegins, NetCodeStands}
+use Rattle.net_text.specs.Reading.{word_at, numeral_below, number_below, number_then, number_due, with_read}
+use Rattle.net_text.specs.Stages.{IsNumeralBelow, Part, Stage, EndsInSpace}
 use Rattle.net_text.specs.declared.net_fault.NetCode.{NetCode}
 use Rattle.net_text.specs.declared.net_fault.NetCode.TheVariants.{N1, N2, N5}
 use Rattle.net_text.specs.declared.words.TextFault.{TextFault}
@@ -47,21 +47,21 @@ with_word read P Q (Err fault) h = h
 
 module _ {K G : List ℕ → Type 0} (nets limit last : ℕ) (code : NetCode) (no_digit : is_digit last ≡ false) (text : List ℕ) (at : ℕ) (within : at ≤ length text)
     (space : EndsInSpace (take at text))
-    (stands : NumberBegins (take at text) (drop at text) → limit ≤ front_number (drop at text) → Stands code (take at text) (drop at text))
-    (two : front_number (drop at text) < limit → Stands N2 (take at text) (drop at text) → ⊥)
-    (five : front_number (drop at text) < limit → Stands N5 (take at text) (drop at text) → ⊥) where
+    (stands : NumberBegins (take at text) (drop at text) → limit ≤ front_number (drop at text) → NetCodeStands code (take at text) (drop at text))
+    (two : front_number (drop at text) < limit → NetCodeStands N2 (take at text) (drop at text) → ⊥)
+    (five : front_number (drop at text) < limit → NetCodeStands N5 (take at text) (drop at text) → ⊥) where
   -- the answer after a numeral
   behind : (digits rest : List ℕ) → drop at text ≡ digits ++ rest → IsNumeral digits → numeral_length (digits ++ rest) ≡ length digits
-      → digits_value 10 digits < limit → Stage nets (take at text) (drop at text) (Part IsNumeral last K) (Part (IsBelow limit) last G)
+      → digits_value 10 digits < limit → Stage nets (take at text) (drop at text) (Part IsNumeral last K) (Part (IsNumeralBelow limit) last G)
       → MatchResult (with_read (digits_value 10 digits) (word_at (last ∷ []) (at + length digits) (drop (at + length digits) text)))
       (NumberRead nets text at K G) (Stopped nets text)
   behind digits rest e numeral whole below stage =
       let behind_digits = (moved text at digits rest within e).1 in
       let value : front_number (drop at text) ≡ digits_value 10 digits = rw e (rw (whole, take_front digits rest) refl) in
       let small : front_number (drop at text) < limit = omega (arith, value, below) in
-      let here : Stage nets (take at text) (digits ++ rest) (Part IsNumeral last K) (Part (IsBelow limit) last G) = rw e at stage in
-      let none_two : Stands N2 (take at text) (digits ++ rest) → ⊥ = rw e at (two small) in
-      let none_five : Stands N5 (take at text) (digits ++ rest) → ⊥ = rw e at (five small) in
+      let here : Stage nets (take at text) (digits ++ rest) (Part IsNumeral last K) (Part (IsNumeralBelow limit) last G) = rw e at stage in
+      let none_two : NetCodeStands N2 (take at text) (digits ++ rest) → ⊥ = rw e at (two small) in
+      let none_five : NetCodeStands N5 (take at text) (digits ++ rest) → ⊥ = rw e at (five small) in
       rw behind_digits (with_word (digits_value 10 digits) (NumberRead nets text at K G) (Stopped nets text) (word_at (last ∷ []) (at + length digits) rest) (byte_read last (at + length digits) rest
       (λ next. NumberRead nets text at K G (digits_value 10 digits, next)) (Stopped nets text)
       (λ others f. step digits others value numeral (e ∙ ap (λ l. digits ++ l) f) (rw f at here) (rw f at none_two) (rw f at none_five))
@@ -72,8 +72,8 @@ module _ {K G : List ℕ → Type 0} (nets limit last : ℕ) (code : NetCode) (n
       not_empty (x ∷ digits) e = cc
 
       step : (digits others : List ℕ) → front_number (drop at text) ≡ digits_value 10 digits → IsNumeral digits → drop at text ≡ digits ++ last ∷ others
-          → Stage nets (take at text) (digits ++ last ∷ others) (Part IsNumeral last K) (Part (IsBelow limit) last G)
-          → (Stands N2 (take at text) (digits ++ last ∷ others) → ⊥) → (Stands N5 (take at text) (digits ++ last ∷ others) → ⊥)
+          → Stage nets (take at text) (digits ++ last ∷ others) (Part IsNumeral last K) (Part (IsNumeralBelow limit) last G)
+          → (NetCodeStands N2 (take at text) (digits ++ last ∷ others) → ⊥) → (NetCodeStands N5 (take at text) (digits ++ last ∷ others) → ⊥)
           → NumberRead nets text at K G (digits_value 10 digits, at + length digits + 1)
       step digits others value numeral e here none_two none_five =
           let cut : drop at text ≡ (digits ++ last ∷ []) ++ others = e ∙ sym (append_assoc digits (last ∷ []) others) in
@@ -89,7 +89,7 @@ module _ {K G : List ℕ → Type 0} (nets limit last : ℕ) (code : NetCode) (n
           }
 
   -- the answer at the rest of the text
-  at_rest : (rest : List ℕ) → drop at text ≡ rest → Stage nets (take at text) (drop at text) (Part IsNumeral last K) (Part (IsBelow limit) last G)
+  at_rest : (rest : List ℕ) → drop at text ≡ rest → Stage nets (take at text) (drop at text) (Part IsNumeral last K) (Part (IsNumeralBelow limit) last G)
       → MatchResult (number_then (last ∷ []) text (number_below limit code at rest)) (NumberRead nets text at K G) (Stopped nets text)
   at_rest rest e stage = none_or_some rest e
     where
@@ -106,7 +106,7 @@ module _ {K G : List ℕ → Type 0} (nets limit last : ℕ) (code : NetCode) (n
         where
           by_value : (x : ℕ) (xs : List ℕ) → take (numeral_length (c ∷ others)) (c ∷ others) ≡ x ∷ xs → IsNumeral (x ∷ xs) → is_digit c ≡ true
               → (b : Bool) → nat_lt (digits_value 10 (x ∷ xs)) limit ≡ b
-              → MatchResult (number_then (last ∷ []) text (number_of limit code at (x ∷ xs))) (NumberRead nets text at K G) (Stopped nets text)
+              → MatchResult (number_then (last ∷ []) text (numeral_below limit code at (x ∷ xs))) (NumberRead nets text at K G) (Stopped nets text)
           by_value x xs are numeral digit true t =
               let behind_digits = drop (numeral_length (c ∷ others)) (c ∷ others) in
               let whole : x ∷ xs ++ behind_digits ≡ c ∷ others =
@@ -123,7 +123,7 @@ module _ {K G : List ℕ → Type 0} (nets limit last : ℕ) (code : NetCode) (n
               rw t (stopped_at nets text at code within (rw e stops))
 
           by_digits : (digits : List ℕ) → take (numeral_length (c ∷ others)) (c ∷ others) ≡ digits → IsNumeral digits → is_digit c ≡ true
-              → MatchResult (number_then (last ∷ []) text (number_of limit code at digits)) (NumberRead nets text at K G) (Stopped nets text)
+              → MatchResult (number_then (last ∷ []) text (numeral_below limit code at digits)) (NumberRead nets text at K G) (Stopped nets text)
           by_digits [] are numeral digit = absurd numeral
           by_digits (x ∷ xs) are numeral digit = by_value x xs are numeral digit (nat_lt (digits_value 10 (x ∷ xs)) limit) refl
 
@@ -134,6 +134,6 @@ module _ {K G : List ℕ → Type 0} (nets limit last : ℕ) (code : NetCode) (n
               rw (numeral_missing c others d)
               (none (c ∷ others) e (λ x xs f. let same : c ≡ x = cc in rw (← same) d))
 
-  pub number_read : Stage nets (take at text) (drop at text) (Part IsNumeral last K) (Part (IsBelow limit) last G)
-      → MatchResult (number_at limit code (last ∷ []) at text) (NumberRead nets text at K G) (Stopped nets text)
+  pub number_read : Stage nets (take at text) (drop at text) (Part IsNumeral last K) (Part (IsNumeralBelow limit) last G)
+      → MatchResult (number_due limit code (last ∷ []) at text) (NumberRead nets text at K G) (Stopped nets text)
   number_read stage = at_rest (drop at text) refl stage

@@ -10,7 +10,7 @@ use Rattle.rx_text.specs.NumberInText as text
 use Rattle.rx_text.specs.declared.number.NumberFault.{NumberFault}
 use Rattle.rx_text.specs.declared.number.NumberFault.TheVariants.{NumberTooLarge}
 use Rattle.net_text.specs.Shape.{numeral_length}
-use Rattle.net_text.specs.Reading.{number_of, number_below}
+use Rattle.net_text.specs.Reading.{numeral_below, number_below}
 use Rattle.net_text.specs.declared.net_fault.NetCode.{NetCode}
 use Rattle.net_text.specs.declared.words.TextFault.{TextFault}
 
@@ -35,23 +35,23 @@ numeral_run (first ∷ rest) = elim (cases_Bool (first == 48)) [
 ]
 
 module _ (limit : ℕ) (code : NetCode) (at : ℕ) where
-  of_too_large : (ds : List ℕ) → text.number_of 0 limit ds ≡ Err NumberTooLarge → Err (record { code = code; at = at }) ≡ number_of limit code at ds
+  of_too_large : (ds : List ℕ) → text.number_of 0 limit ds ≡ Err NumberTooLarge → Err (record { code = code; at = at }) ≡ numeral_below limit code at ds
   of_too_large [] e = cc
   of_too_large (d ∷ ds) e = by_test (nat_le (digits_value 10 (d ∷ ds)) limit) refl
     where
-      by_test : (b : Bool) → nat_le (digits_value 10 (d ∷ ds)) limit ≡ b → Err (record { code = code; at = at }) ≡ number_of limit code at (d ∷ ds)
+      by_test : (b : Bool) → nat_le (digits_value 10 (d ∷ ds)) limit ≡ b → Err (record { code = code; at = at }) ≡ numeral_below limit code at (d ∷ ds)
       by_test true t = let wrong = rw t at e in cc
       by_test false t =
           let above = leb-false _ _ t in
           let e : nat_lt (digits_value 10 (d ∷ ds)) limit ≡ false = le-ltb _ _ (omega (arith, above)) in rw e refl
 
   of_below : (ds : List ℕ) (value n : ℕ) → text.number_of 0 limit ds ≡ Ok (value, n) → value < limit
-      → ◌≡◌ {A = Result (ℕ × ℕ) TextFault} (Ok (value, at + length ds)) (number_of limit code at ds)
+      → ◌≡◌ {A = Result (ℕ × ℕ) TextFault} (Ok (value, at + length ds)) (numeral_below limit code at ds)
   of_below [] value n e h = cc
   of_below (d ∷ ds) value n e h = by_test (nat_le (digits_value 10 (d ∷ ds)) limit) refl
     where
       by_test : (b : Bool) → nat_le (digits_value 10 (d ∷ ds)) limit ≡ b
-          → ◌≡◌ {A = Result (ℕ × ℕ) TextFault} (Ok (value, at + length (d ∷ ds))) (number_of limit code at (d ∷ ds))
+          → ◌≡◌ {A = Result (ℕ × ℕ) TextFault} (Ok (value, at + length (d ∷ ds))) (numeral_below limit code at (d ∷ ds))
       by_test true t =
           let said = rw t at e in
           let pair : ◌≡◌ {A = ℕ × ℕ} (digits_value 10 (d ∷ ds), 0 + length (d ∷ ds)) (value, n) = cc in
@@ -61,12 +61,12 @@ module _ (limit : ℕ) (code : NetCode) (at : ℕ) where
       by_test false t = let wrong = rw t at e in cc
 
   of_at_limit : (ds : List ℕ) (value n : ℕ) → text.number_of 0 limit ds ≡ Ok (value, n) → limit ≤ value
-      → ◌≡◌ {A = Result (ℕ × ℕ) TextFault} (Err (record { code = code; at = at })) (number_of limit code at ds)
+      → ◌≡◌ {A = Result (ℕ × ℕ) TextFault} (Err (record { code = code; at = at })) (numeral_below limit code at ds)
   of_at_limit [] value n e h = cc
   of_at_limit (d ∷ ds) value n e h = by_test (nat_le (digits_value 10 (d ∷ ds)) limit) refl
     where
       by_test : (b : Bool) → nat_le (digits_value 10 (d ∷ ds)) limit ≡ b
-          → ◌≡◌ {A = Result (ℕ × ℕ) TextFault} (Err (record { code = code; at = at })) (number_of limit code at (d ∷ ds))
+          → ◌≡◌ {A = Result (ℕ × ℕ) TextFault} (Err (record { code = code; at = at })) (numeral_below limit code at (d ∷ ds))
       by_test true t =
           let said = rw t at e in
           let pair : ◌≡◌ {A = ℕ × ℕ} (digits_value 10 (d ∷ ds), 0 + length (d ∷ ds)) (value, n) = cc in

@@ -1,5 +1,5 @@
 -- Every text is a network's or is refused in one way.
-use Rattle.std.proofs.Common.{◌≡◌, ◌⊎◌, inl, inr, ℕ, ◌+◌, List, [], ◌∷◌, ◌++◌, All, Option, Some, None, take, drop, length, refl, sym, ap, ◌∙◌, subst, append_assoc, append-nil, arith}
+use Rattle.std.proofs.Common.{◌≡◌, ◌⊎◌, inl, inr, ℕ, ◌+◌, List, [], ◌∷◌, ◌++◌, Option, Some, None, take, drop, length, refl, sym, ap, ◌∙◌, subst, append_assoc, append-nil, arith}
 use Rattle.std.specs.Prelude.{codes}
 use Rattle.std.proofs.lemmas.List.{take-append-drop}
 use Rattle.rx_text.specs.TextPlace.{place_behind}
@@ -11,13 +11,13 @@ use Rattle.switch_net.specs.declared.network.BadNetwork.{BadNetwork}
 use Rattle.switch_net.specs.declared.network.BadNetwork.TheVariants.{NetOutOfRange, DoublePad, MissingPad}
 use Rattle.switch_net.specs.declared.network.Pad.{Pad}
 use Rattle.switch_net.specs.declared.network.Device.{Device}
-use Rattle.net_text.specs.NetworkText.{IsNamed, IsNetworkText}
-use Rattle.net_text.specs.Shape.{IsNumeral, DeviceLines, Lines, Shaped, head}
-use Rattle.net_text.specs.NetRefusals.{NumberBegins, Stands, StandsFirst, Writes, CircuitFault, NetRefusal}
+use Rattle.net_text.specs.NetworkText.{IsTextOf, IsNetworkText}
+use Rattle.net_text.specs.Shape.{IsNumeral, DeviceLines, PadLines, Shaped, head}
+use Rattle.net_text.specs.NetRefusals.{NumberBegins, NetCodeStands, NetCodeStandsFirst, CircuitFault, NetRefusal}
 use Rattle.net_text.specs.Steps.{IsRead}
 use Rattle.net_text.specs.declared.net_fault.NetCode.{NetCode}
 use Rattle.net_text.specs.declared.net_fault.NetCode.TheVariants.{N1, N2, N3, N4, N5, N6}
-use Rattle.net_text.proofs.CircuitFaults.{in_range, writes, is_network_text}
+use Rattle.net_text.proofs.CircuitFaults.{in_range, text_of, is_network_text}
 use Rattle.net_text.proofs.CircuitsInRange.{in_range_of_fault}
 use Rattle.net_text.proofs.Cuts.{Cuts, cuts, cancel}
 use Rattle.net_text.proofs.OneNetwork.{same_circuit}
@@ -37,9 +37,9 @@ module _ (N : List ℕ → Type 0) where
   device_lines_end text (DeviceLines.pass t gate a b more e ng na nb lines) =
       let ends = more_ends (codes "pass " ++ gate ++ codes " " ++ a ++ codes " " ++ b ++ codes "\n") more (device_lines_end more lines) in (ends.0, e ∙ ends.1)
 
-  lines_end : (text : List ℕ) → Lines N text → (before : List ℕ) × (text ≡ before ++ codes "\n")
-  lines_end text (Lines.devices t lines) = device_lines_end t lines
-  lines_end text (Lines.pad t role name net more e bears valid n lines) =
+  lines_end : (text : List ℕ) → PadLines N text → (before : List ℕ) × (text ≡ before ++ codes "\n")
+  lines_end text (PadLines.devices t lines) = device_lines_end t lines
+  lines_end text (PadLines.pad t role name net more e bears valid n lines) =
       let ends = more_ends _ more (lines_end more lines) in (ends.0, e ∙ ends.1)
 
 shaped_ends : (text : List ℕ) → Shaped text → (before : List ℕ) × (text ≡ before ++ codes "\n")
@@ -61,14 +61,14 @@ no_number_behind front rest s n =
     by_place xs ys (Cuts.behind c vs p q) = none c vs 10 32 q
 
 -- one code stands at a place
-no_syntax : (front rest : List ℕ) → NumberBegins front rest → Stands N1 front rest → ⊥
+no_syntax : (front rest : List ℕ) → NumberBegins front rest → NetCodeStands N1 front rest → ⊥
 no_syntax front rest n s = s.2 n.digit n.others n.here n.begins
 
-not_both : (front rest : List ℕ) → Stands N2 front rest → Stands N5 front rest → ⊥
+not_both : (front rest : List ℕ) → NetCodeStands N2 front rest → NetCodeStands N5 front rest → ⊥
 not_both front rest two five =
     let (more, e, some, large) = two.1 in some (sym (cancel head [] more (append-nil head ∙ sym five.1 ∙ e)))
 
-one_code : (code other : NetCode) (front rest : List ℕ) → Stands code front rest → Stands other front rest → code ≡ other
+one_code : (code other : NetCode) (front rest : List ℕ) → NetCodeStands code front rest → NetCodeStands other front rest → code ≡ other
 one_code N1 N1 front rest s t = refl
 one_code N1 N2 front rest s t = absurd (no_syntax front rest t.0 s)
 one_code N1 N3 front rest s t = absurd t
@@ -97,17 +97,17 @@ one_code N6 N5 front rest s t = absurd (no_number_behind front rest s.0 t.0)
 one_code N6 N6 front rest s t = refl
 
 -- the first one is one
-pub one_first : (text : List ℕ) (code other : NetCode) (place elsewhere : Place) → StandsFirst text code place → StandsFirst text other elsewhere
+pub one_first : (text : List ℕ) (code other : NetCode) (place elsewhere : Place) → NetCodeStandsFirst text code place → NetCodeStandsFirst text other elsewhere
     → (code ≡ other) × (place ≡ elsewhere)
 one_first text code other place elsewhere s t = by_place (cuts s.front s.rest t.front t.rest (sym s.whole ∙ t.whole))
   where
     by_place : Cuts s.front s.rest t.front t.rest → (code ≡ other) × (place ≡ elsewhere)
     by_place (Cuts.same p q) = (
-      one_code code other s.front s.rest s.stands (subst (λ l. Stands other l s.rest) (sym p) (subst (λ l. Stands other t.front l) (sym q) t.stands)),
+      one_code code other s.front s.rest s.stands (subst (λ l. NetCodeStands other l s.rest) (sym p) (subst (λ l. NetCodeStands other t.front l) (sym q) t.stands)),
       s.at_place ∙ ap place_behind p ∙ sym t.at_place,
     )
-    by_place (Cuts.before c vs p q) = absurd (t.first code s.front c vs p (subst (λ l. Stands code s.front l) q s.stands))
-    by_place (Cuts.behind c vs p q) = absurd (s.first other t.front c vs p (subst (λ l. Stands other t.front l) q t.stands))
+    by_place (Cuts.before c vs p q) = absurd (t.first code s.front c vs p (subst (λ l. NetCodeStands code s.front l) q s.stands))
+    by_place (Cuts.behind c vs p q) = absurd (s.first other t.front c vs p (subst (λ l. NetCodeStands other t.front l) q t.stands))
 
 -- ---- answers
 
@@ -144,15 +144,15 @@ one_circuit_fault N4 N6 circuit place elsewhere s t = absurd t
 one_circuit_fault N5 other circuit place elsewhere s t = absurd s
 one_circuit_fault N6 other circuit place elsewhere s t = absurd s
 
--- a text that is no network's writes one circuit
-one_written : (text : List ℕ) (a b : Circuit) (code other : NetCode) (place elsewhere : Place) → Writes text a → Writes text b
+-- a text that is no network's is of one circuit
+one_written : (text : List ℕ) (a b : Circuit) (code other : NetCode) (place elsewhere : Place) → IsTextOf text a → IsTextOf text b
     → CircuitFault code a place → CircuitFault other b elsewhere → a ≡ b
 one_written text a b code other place elsewhere wa wb fa fb =
     let bad_a = bad_circuit code a place fa in
     let bad_b = bad_circuit other b elsewhere fb in
     let range_a = in_range_of_fault a bad_a.0 bad_a.1 bad_a.2 in
     let range_b = in_range_of_fault b bad_b.0 bad_b.1 bad_b.2 in
-    same_circuit a b (sym wa.text_of ∙ wb.text_of) wa.named wb.named range_a.0 range_b.0 range_a.1 range_b.1 wa.few_nets wb.few_nets
+    same_circuit a b (sym wa.text ∙ wb.text) wa.named wb.named range_a.0 range_b.0 range_a.1 range_b.1 wa.few_nets wb.few_nets
 
 pub one_refusal : (text : List ℕ) (code other : NetCode) (place elsewhere : Place) → NetRefusal text code place → NetRefusal text other elsewhere
     → (code ≡ other) × (place ≡ elsewhere)
@@ -160,7 +160,7 @@ one_refusal text code other place elsewhere (inl s) (inl t) = one_first text cod
 one_refusal text code other place elsewhere (inl s) (inr t) = absurd (t.clear code s.front s.rest s.whole s.stands)
 one_refusal text code other place elsewhere (inr s) (inl t) = absurd (s.clear other t.front t.rest t.whole t.stands)
 one_refusal text code other place elsewhere (inr s) (inr t) =
-    let same = one_written text s.circuit t.circuit code other place elsewhere s.writes t.writes s.fault t.fault in
+    let same = one_written text s.circuit t.circuit code other place elsewhere s.text_of t.text_of s.fault t.fault in
     one_circuit_fault code other s.circuit place elsewhere s.fault (subst (λ c. CircuitFault other c elsewhere) (sym same) t.fault)
 
 module _ (law : FaultlessIsNetwork) where
@@ -171,29 +171,29 @@ module _ (law : FaultlessIsNetwork) where
       let clash : Some bad.0 ≡ None = sym bad.1 ∙ (law circuit).0 network in
       cc
 
-  pub exclusive : (text : List ℕ) (circuit : Circuit) (code : NetCode) (place : Place) → All IsNamed circuit.pads → IsNetworkText text circuit
+  pub exclusive : (text : List ℕ) (circuit : Circuit) (code : NetCode) (place : Place) → IsNetworkText text circuit
       → NetRefusal text code place → ⊥
-  exclusive text circuit code place named is (inl s) = by_reading (read_text text)
+  exclusive text circuit code place is (inl s) = by_reading (read_text text)
     where
       by_reading : Outcome text → ⊥
       by_reading (Outcome.read nets pads devices read) = read.clear code s.front s.rest s.whole s.stands
-      by_reading (Outcome.refused fault first refuted) = refuted circuit.nets (counts text circuit named is) (ranged text circuit named is)
-  exclusive text circuit code place named is (inr s) =
+      by_reading (Outcome.refused fault first refuted) = refuted circuit.nets (counts text circuit is) (ranged text circuit is)
+  exclusive text circuit code place is (inr s) =
       let bad = bad_circuit code s.circuit place s.fault in
       let range = in_range_of_fault s.circuit bad.0 bad.1 bad.2 in
-      let same = same_circuit circuit s.circuit (sym is.text ∙ s.writes.text_of) named s.writes.named is.network.pads_below range.0
-      is.network.devices_below range.1 is.few_nets s.writes.few_nets in
+      let same = same_circuit circuit s.circuit (sym is.text_of.text ∙ s.text_of.text) is.text_of.named s.text_of.named is.network.pads_below range.0
+      is.network.devices_below range.1 is.text_of.few_nets s.text_of.few_nets in
       not_faulty code circuit place is.network (subst (λ c. CircuitFault code c place) (sym same) s.fault)
 
-  pub either : (text : List ℕ) → ((circuit : Circuit) × All IsNamed circuit.pads × IsNetworkText text circuit)
+  pub either : (text : List ℕ) → ((circuit : Circuit) × IsNetworkText text circuit)
       ⊎ ((code : NetCode) × (place : Place) × NetRefusal text code place)
   either text = by_reading (read_text text)
     where
       by_fault : (nets : ℕ) (pads : List Pad) (devices : List Device) → IsRead text nets pads devices → (bad : Option BadNetwork)
           → first_fault nets pads devices ≡ bad
-          → ((circuit : Circuit) × All IsNamed circuit.pads × IsNetworkText text circuit) ⊎ ((code : NetCode) × (place : Place) × NetRefusal text code place)
+          → ((circuit : Circuit) × IsNetworkText text circuit) ⊎ ((code : NetCode) × (place : Place) × NetRefusal text code place)
       by_fault nets pads devices read None e =
-          inl (record { nets = nets; pads = pads; devices = devices }, read.parts.named, is_network_text text nets pads devices read law (sym e))
+          inl (record { nets = nets; pads = pads; devices = devices }, is_network_text text nets pads devices read law (sym e))
       by_fault nets pads devices read (Some (NetOutOfRange at)) e = absurd (in_range text nets pads devices read (NetOutOfRange at) (sym e) at refl)
       by_fault nets pads devices read (Some (DoublePad at)) e =
           inr (
@@ -202,7 +202,7 @@ module _ (law : FaultlessIsNetwork) where
             inr (record {
               clear = read.clear;
               circuit = record { nets = nets; pads = pads; devices = devices };
-              writes = writes text nets pads devices read;
+              text_of = text_of text nets pads devices read;
               fault = (at, e, refl);
             }),
           )
@@ -213,12 +213,12 @@ module _ (law : FaultlessIsNetwork) where
             inr (record {
               clear = read.clear;
               circuit = record { nets = nets; pads = pads; devices = devices };
-              writes = writes text nets pads devices read;
+              text_of = text_of text nets pads devices read;
               fault = (role, e, refl);
             }),
           )
 
-      by_reading : Outcome text → ((circuit : Circuit) × All IsNamed circuit.pads × IsNetworkText text circuit)
+      by_reading : Outcome text → ((circuit : Circuit) × IsNetworkText text circuit)
           ⊎ ((code : NetCode) × (place : Place) × NetRefusal text code place)
       by_reading (Outcome.read nets pads devices read) = by_fault nets pads devices read (first_fault nets pads devices) refl
       by_reading (Outcome.refused fault first refuted) =

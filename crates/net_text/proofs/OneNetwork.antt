@@ -1,15 +1,16 @@
 -- A text is the text of one network at most.
-use Rattle.std.proofs.Common.{◌≡◌, ◌≢◌, ℕ, ◌<◌, ◌≤◌, List, [], ◌∷◌, ◌++◌, All, sym, ◌∙◌, arith, append_assoc}
+use Rattle.std.proofs.Common.{◌≡◌, ◌≢◌, ℕ, ◌<◌, ◌≤◌, List, [], ◌∷◌, ◌++◌, All, refl, sym, ◌∙◌, arith, append_assoc}
 use Rattle.std.proofs.lemmas.List.Elements.{recursion_from_All}
 use Rattle.std.specs.Prelude.{codes}
 use Rattle.std.specs.Fmt.{decimal}
 use Rattle.std.specs.List.{AllByRecursion, flat_map}
 use Rattle.switch_net.specs.Circuit.{Circuit}
 use Rattle.switch_net.specs.ClockedLogic.{NamesBelow}
+use Rattle.switch_net.specs.Validity.{IsNetwork}
 use Rattle.switch_net.specs.declared.network.Pad.{Pad}
 use Rattle.switch_net.specs.declared.network.Device.{Device}
 use Rattle.switch_net.specs.declared.network.Device.TheVariants.{Pass, Load}
-use Rattle.net_text.specs.NetworkText.{network_text, device_line, pad_line, IsNamed, TextIsOfOneNetwork}
+use Rattle.net_text.specs.NetworkText.{network_text, device_line, pad_line, IsNamed, IsNetworkText, TextIsOfOneNetwork}
 use Rattle.net_text.proofs.ReadBack.{IsPlain, IsShort, kind, kind-pad_line, kind-device_line, pad_line_same, device_line_same, number_same, line_feed_ends, lines_same}
 
 -- pads of a network are short enough to be read back
@@ -63,6 +64,15 @@ same_circuit a b same names_a names_b pads_a pads_b devices_a devices_b few_a fe
     circuit_of_same a.nets b.nets a.pads b.pads a.devices b.devices nets.0 pads.0 devices.0
 
 pub one_network : TextIsOfOneNetwork
-one_network bytes a b names_a names_b text_a text_b =
-    same_circuit a b (sym text_a.text ∙ text_b.text) names_a names_b text_a.network.pads_below text_b.network.pads_below
-    text_a.network.devices_below text_b.network.devices_below text_a.few_nets text_b.few_nets
+one_network bytes a b text_a text_b =
+    same_circuit a b (sym text_a.text_of.text ∙ text_b.text_of.text) text_a.text_of.named text_b.text_of.named
+    text_a.network.pads_below text_b.network.pads_below text_a.network.devices_below text_b.network.devices_below
+    text_a.text_of.few_nets text_b.text_of.few_nets
+
+-- the text that is written of a network is that of this network alone
+pub read_back : (circuit : Circuit) → IsNetwork circuit → All IsNamed circuit.pads → circuit.nets ≤ 16777216
+    → IsNetworkText (network_text circuit) circuit × ((other : Circuit) → IsNetworkText (network_text circuit) other → other ≡ circuit)
+read_back circuit network named few =
+    let own : IsNetworkText (network_text circuit) circuit =
+    record { text_of = record { text = refl; named = named; few_nets = few }; network = network } in
+    (own, λ other text. one_network (network_text circuit) other circuit text own)

@@ -3,7 +3,7 @@ use Rattle.std.proofs.Common.{◌≡◌, ℕ, ◌+◌, ◌≤◌, List, [], ◌�
 use Rattle.std.proofs.lemmas.List.{drop-drop, take-append-drop}
 use Rattle.net_text.specs.Shape.{IsNumeral, front_number}
 use Rattle.std.specs.Prelude.{codes}
-use Rattle.net_text.specs.Stages.{IsBelow, InRange, Stage, Due, EndsInSpace, IsFirst}
+use Rattle.net_text.specs.Stages.{IsNumeralBelow, InRange, Stage, Due, EndsInSpace, IsFirst}
 use Rattle.net_text.specs.Steps.{Reads}
 use Rattle.net_text.specs.declared.net_fault.NetCode.{NetCode}
 use Rattle.net_text.specs.declared.words.TextFault.{TextFault}
@@ -50,7 +50,7 @@ stopped nets text at bytes rest code within e stops =
 
 -- bytes behind bytes that are due
 pub due_on : {nets : ℕ} {front rest : List ℕ} {K L : (List ℕ → Type 0) → List ℕ → Type 0} (bytes front_after rest_after : List ℕ) → Due nets front rest K
-    → front_after ≡ front ++ bytes → rest ≡ bytes ++ rest_after → Stage nets front_after rest_after (L IsNumeral) (L (IsBelow nets))
+    → front_after ≡ front ++ bytes → rest ≡ bytes ++ rest_after → Stage nets front_after rest_after (L IsNumeral) (L (IsNumeralBelow nets))
     → Due nets front_after rest_after L
 due_on {nets} {front} {rest} bytes front_after rest_after due at_front at_rest stage = record {
   stage = stage;

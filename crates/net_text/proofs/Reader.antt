@@ -14,7 +14,7 @@ use Rattle.switch_net.specs.declared.network.Device.{Device}
 use Rattle.switch_net.specs.declared.network.Device.TheVariants as device
 use Rattle.net_text.specs.NetworkText.{role_word}
 use Rattle.net_text.specs.Shape.{head, front_number}
-use Rattle.net_text.specs.Reading.{line_word, later_lines, word_at, number_at, name_at, line_at}
+use Rattle.net_text.specs.Reading.{line_word, later_lines, word_at, number_due, name_at, line_at}
 use Rattle.net_text.specs.Steps.{Reads, ReadsName, ReadsPad, ReadsDevice, ReadTo, IsRead, no_devices}
 use Rattle.net_text.specs.Stages.{IsName, InRange, Part, PadNet, BehindRole, DeviceNet, TwoNets, BehindPass, BehindWord, LinesDue, DueAt, EndsInSpace, IsFirst}
 use Rattle.net_text.specs.declared.line_kind.LineKind.{LineKind}
@@ -46,9 +46,9 @@ module _ (nets : ℕ) (few : nets ≤ 16777216) (text : List ℕ) where
 
   net_found : {K : (List ℕ → Type 0) → List ℕ → Type 0} (last at : ℕ) → is_digit last ≡ false → at ≤ length text → DueAt nets text at (λ N. Part N last (K N))
       → EndsInSpace (take at text) → NetFound last at K ⊎ Refused nets text
-  net_found {K} last at no_digit within due space = by_answer (number_at nets N2 (last ∷ []) at text) refl
+  net_found {K} last at no_digit within due space = by_answer (number_due nets N2 (last ∷ []) at text) refl
     where
-      by_answer : (r : Result (ℕ × ℕ) TextFault) → number_at nets N2 (last ∷ []) at text ≡ r → NetFound last at K ⊎ Refused nets text
+      by_answer : (r : Result (ℕ × ℕ) TextFault) → number_due nets N2 (last ∷ []) at text ≡ r → NetFound last at K ⊎ Refused nets text
       by_answer (Err fault) e = inr (fault, rw e at (net_read nets text at within {K = K} last no_digit due space))
       by_answer (Ok (value, next)) e =
           let number = Reads-number nets N2 (last ∷ []) text at value next within (omega arith) e in
@@ -263,7 +263,7 @@ read_text text = by_head (word_at head 0 text) refl
     by_lines : (v next : ℕ) → ReadTo text v [] [] next → Outcome text
     by_lines v next begun = by_found v next begun.few_nets begun (lines_found v begun.few_nets text (length text) [] [] next (omega arith) begun)
 
-    by_count : (at : ℕ) → ((nets : ℕ) → due_head.HeadRead nets text at) → Reads text 0 at head → (r : Result (ℕ × ℕ) TextFault) → number_at 16777217 N5 (10 ∷ []) at text ≡ r
+    by_count : (at : ℕ) → ((nets : ℕ) → due_head.HeadRead nets text at) → Reads text 0 at head → (r : Result (ℕ × ℕ) TextFault) → number_due 16777217 N5 (10 ∷ []) at text ≡ r
         → Outcome text
     by_count at begun word (Err fault) e =
         Outcome.refused fault (rw e at (due_head.count_read 0 text at (begun 0))).first (λ nets c s. (rw e at (due_head.count_read nets text at (begun nets))).refuted s)
@@ -275,4 +275,4 @@ read_text text = by_head (word_at head 0 text) refl
     by_head (Err fault) e =
         Outcome.refused fault (rw e at (due_head.head_read 0 text)).first (λ nets c s. (rw e at (due_head.head_read nets text)).refuted s)
     by_head (Ok at) e =
-        by_count at (λ nets. rw e at (due_head.head_read nets text)) (Reads-word head text 0 at (omega arith) e) (number_at 16777217 N5 (10 ∷ []) at text) refl
+        by_count at (λ nets. rw e at (due_head.head_read nets text)) (Reads-word head text 0 at (omega arith) e) (number_due 16777217 N5 (10 ∷ []) at text) refl

@@ -92,6 +92,6 @@ refusal_within text code line column (inl stands) =
     let size = ap length stands.whole ∙ length-append stands.front stands.rest in
     omega arith
 refusal_within text code line column (inr none) =
-    let size = ap length none.writes.text_of in
+    let size = ap length none.text_of.text in
     let within = circuit_line code none.circuit line column none.fault in
     omega arith

@@ -1,5 +1,5 @@
 -- The text of a network has the shape, and its nets are in range.
-use Rattle.std.proofs.Common.{◌≡◌, ℕ, zero, suc, ◌<◌, ◌≤◌, ◌^◌, true, List, [], ◌∷◌, ◌++◌, All, get_or, length, refl, ap, ◌∙◌, append_assoc, arith}
+use Rattle.std.proofs.Common.{◌≡◌, ℕ, zero, suc, ◌<◌, ◌≤◌, ◌^◌, true, List, [], ◌∷◌, ◌++◌, get_or, length, refl, ap, ◌∙◌, append_assoc, arith}
 use Rattle.std.proofs.lemmas.Bool.{le-leb}
 use Rattle.std.proofs.lemmas.Fmt.{decimal_is_IsNumeral, decimal_digit, first_decimal}
 use Rattle.std.proofs.lemmas.List.Elements.{recursion_from_All}
@@ -15,8 +15,8 @@ use Rattle.switch_net.specs.declared.network.Pad.{Pad}
 use Rattle.switch_net.specs.declared.network.Device.{Device}
 use Rattle.switch_net.specs.declared.network.Device.TheVariants.{Pass, Load}
 use Rattle.net_text.specs.NetworkText.{role_word, name_part, pad_line, device_line, IsNamed, IsNetworkText}
-use Rattle.net_text.specs.Shape.{IsNumeral, DeviceLines, Lines, head}
-use Rattle.net_text.specs.Stages.{IsBelow, InRange}
+use Rattle.net_text.specs.Shape.{IsNumeral, DeviceLines, PadLines, head}
+use Rattle.net_text.specs.Stages.{IsNumeralBelow, InRange}
 use Rattle.net_text.proofs.DueNumbers.{front_number_of}
 use Rattle.net_text.proofs.ReadBack.{both_true}
 use Rattle.net_text.proofs.Reader.{Counts}
@@ -48,17 +48,17 @@ decimal_numeral n small =
     lead zero small e = ap (λ (l : List ℕ). length l) (decimal_digit 0 (omega arith))
     lead (suc n) small e = absurd (omega (arith, first_decimal (suc n) (omega arith) small, e))
 
-decimal_below : (limit n : ℕ) → n < limit → limit ≤ 16777217 → IsBelow limit (decimal n)
+decimal_below : (limit n : ℕ) → n < limit → limit ≤ 16777217 → IsNumeralBelow limit (decimal n)
 decimal_below limit n below few =
     let small : n < 2 ^ 64 = omega (arith, below, few) in
     (decimal_numeral n small, omega (arith, (decimal_is_IsNumeral n small).1, below))
 
 module _ (nets : ℕ) (few : nets ≤ 16777216) where
-  number : (n : ℕ) → n < nets → IsBelow nets (decimal n)
+  number : (n : ℕ) → n < nets → IsNumeralBelow nets (decimal n)
   number n below = decimal_below nets n below (omega (arith, few))
 
   -- lines of devices
-  device_lines : (devices : List Device) → AllByRecursion (NamesBelow nets) devices → DeviceLines (IsBelow nets) (flat_map device_line devices ++ codes "end\n")
+  device_lines : (devices : List Device) → AllByRecursion (NamesBelow nets) devices → DeviceLines (IsNumeralBelow nets) (flat_map device_line devices ++ codes "end\n")
   device_lines [] below = DeviceLines.end (codes "end\n") refl
   device_lines (Pass gate a b ∷ devices) below =
       DeviceLines.pass (flat_map device_line (Pass gate a b ∷ devices) ++ codes "end\n") (decimal gate.0) (decimal a.0) (decimal b.0)
@@ -76,24 +76,24 @@ module _ (nets : ℕ) (few : nets ≤ 16777216) where
       text n more = simp append_assoc refl
 
   -- lines of pads before them
-  pad_lines : (pads : List Pad) (rest : List ℕ) → AllByRecursion (λ pad. IsNamed pad × (pad.net.0 < nets)) pads → DeviceLines (IsBelow nets) rest
-      → Lines (IsBelow nets) (flat_map pad_line pads ++ rest)
-  pad_lines [] rest good lines = Lines.devices rest lines
+  pad_lines : (pads : List Pad) (rest : List ℕ) → AllByRecursion (λ pad. IsNamed pad × (pad.net.0 < nets)) pads → DeviceLines (IsNumeralBelow nets) rest
+      → PadLines (IsNumeralBelow nets) (flat_map pad_line pads ++ rest)
+  pad_lines [] rest good lines = PadLines.devices rest lines
   pad_lines (pad ∷ pads) rest good lines =
-      Lines.pad (flat_map pad_line (pad ∷ pads) ++ rest) pad.name.role pad.name.name (decimal pad.net.0) (flat_map pad_line pads ++ rest)
+      PadLines.pad (flat_map pad_line (pad ∷ pads) ++ rest) pad.name.role pad.name.name (decimal pad.net.0) (flat_map pad_line pads ++ rest)
       (text (role_word pad.name.role) (name_part pad.name.name) (decimal pad.net.0) (flat_map pad_line pads))
       good.0.0.0 good.0.0.1 (number pad.net.0 good.0.1) (pad_lines pads rest good.1 lines)
     where
       text : (word name n more : List ℕ) → (word ++ name ++ (32 ∷ n) ++ codes "\n" ++ more) ++ rest ≡ word ++ name ++ codes " " ++ n ++ codes "\n" ++ (more ++ rest)
       text word name n more = simp append_assoc refl
 
-module _ (text : List ℕ) (circuit : Circuit) (named : All IsNamed circuit.pads) (is : IsNetworkText text circuit) where
+module _ (text : List ℕ) (circuit : Circuit) (is : IsNetworkText text circuit) where
   -- the lines
   abbrev lines : List ℕ
   lines = flat_map pad_line circuit.pads ++ (flat_map device_line circuit.devices ++ codes "end\n")
 
   cut : text ≡ head ++ (decimal circuit.nets ++ 10 ∷ lines)
-  cut = is.text ∙ whole (decimal circuit.nets) (flat_map pad_line circuit.pads) (flat_map device_line circuit.devices)
+  cut = is.text_of.text ∙ whole (decimal circuit.nets) (flat_map pad_line circuit.pads) (flat_map device_line circuit.devices)
     where
       whole : (n pads devices : List ℕ) → (codes "rxnet 1\nnets" ++ (32 ∷ n) ++ codes "\n") ++ pads ++ devices ++ codes "end\n"
           ≡ head ++ (n ++ 10 ∷ (pads ++ (devices ++ codes "end\n")))
@@ -101,7 +101,7 @@ module _ (text : List ℕ) (circuit : Circuit) (named : All IsNamed circuit.pads
 
   pub counts : Counts circuit.nets text
   counts =
-      let small : circuit.nets < 2 ^ 64 = omega (arith, is.few_nets) in
+      let small : circuit.nets < 2 ^ 64 = omega (arith, is.text_of.few_nets) in
       record {
         after = decimal circuit.nets ++ 10 ∷ lines;
         is = cut;
@@ -113,11 +113,11 @@ module _ (text : List ℕ) (circuit : Circuit) (named : All IsNamed circuit.pads
     count = decimal circuit.nets;
     more = lines;
     is = cut ∙ whole (decimal circuit.nets) lines;
-    counted = decimal_below 16777217 circuit.nets (omega (arith, is.few_nets)) (omega arith);
+    counted = decimal_below 16777217 circuit.nets (omega (arith, is.text_of.few_nets)) (omega arith);
     lines =
-        pad_lines circuit.nets is.few_nets circuit.pads (flat_map device_line circuit.devices ++ codes "end\n")
-        (recursion_from_All _ circuit.pads (λ k d lt. (named k d lt, is.network.pads_below k d lt)))
-        (device_lines circuit.nets is.few_nets circuit.devices (recursion_from_All _ circuit.devices is.network.devices_below));
+        pad_lines circuit.nets is.text_of.few_nets circuit.pads (flat_map device_line circuit.devices ++ codes "end\n")
+        (recursion_from_All _ circuit.pads (λ k d lt. (is.text_of.named k d lt, is.network.pads_below k d lt)))
+        (device_lines circuit.nets is.text_of.few_nets circuit.devices (recursion_from_All _ circuit.devices is.network.devices_below));
   }
     where
       whole : (n more : List ℕ) → head ++ (n ++ 10 ∷ more) ≡ head ++ n ++ codes "\n" ++ more

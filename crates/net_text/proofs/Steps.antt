@@ -4,7 +4,6 @@ use Rattle.std.proofs.lemmas.Bool.{cases_Bool, ltb-true, ltb-false, eqb-true}
 use Rattle.std.proofs.lemmas.List.{length-append, length-drop, length-take-le, take-append-drop}
 use Rattle.std.proofs.lemmas.Bool.{leb-true}
 use Rattle.std.proofs.lemmas.Fmt.{decimal-digits_value, decimal_digit}
-use Rattle.std.proofs.lemmas.List.Elements.{recursion_from_All}
 use Rattle.std.proofs.lemmas.Str.Parse.{numerals_by_value, tells_digits}
 use Rattle.std.proofs.lemmas.Str.{digit_value_digit}
 use Rattle.std.proofs.lemmas.List.Sums.{prefix_len-le-length}
@@ -19,9 +18,8 @@ use Rattle.std.specs.Fmt.{decimal}
 use Rattle.std.specs.List.{AllByRecursion, prefix_len}
 use Rattle.std.specs.Str.Parse.{AllDigits, digits_value}
 use Rattle.rx_text.specs.NumberInText.{is_digit}
-use Rattle.rx_text.proofs.Digits.{run_all}
 use Rattle.net_text.proofs.ReadBack.{both_true}
-use Rattle.net_text.specs.Reading.{agreeing, word_at, number_of, number_below, number_then, number_at, with_read, name_length, name_at, line_at, line_found, line_word, begins_line, later_lines}
+use Rattle.net_text.specs.Reading.{agreeing, word_at, numeral_below, number_below, number_then, number_due, with_read, name_length, name_at, line_at, line_found, line_word, begins_line, later_lines}
 use Rattle.net_text.specs.Shape.{numeral_length}
 use Rattle.net_text.specs.Steps.{Reads}
 use Rattle.net_text.specs.declared.words.TextFault.{TextFault}
@@ -83,6 +81,19 @@ digits_of_run (d ∷ ds) h = (digit d h.0, digits_of_run ds h.1)
         let low : 48 ≤ d = leb-true _ _ both.0 in let high : d ≤ 57 = leb-true _ _ both.1 in
         omega (arith, digit_value_digit d (low, high))
 
+front_more : (n x : ℕ) (xs : List ℕ) → IsTrue (is_digit x) → AllByRecursion (λ x. IsTrue (is_digit x)) (take n xs)
+    → AllByRecursion (λ x. IsTrue (is_digit x)) (take (1 + n) (x ∷ xs))
+front_more n x xs here later = let e : 1 + n ≡ suc n = omega arith in rw e (here, later)
+
+-- every byte of the longest run of digits is one
+digits_pass : (xs : List ℕ) → AllByRecursion (λ x. IsTrue (is_digit x)) (take (prefix_len is_digit xs) xs)
+digits_pass [] = tt
+digits_pass (x ∷ xs) =
+    elim (cases_Bool (is_digit x)) [
+      | inl good ↦ rw good (front_more (prefix_len is_digit xs) x xs good (digits_pass xs))
+      | inr bad ↦ rw bad tt
+    ]
+
 -- a numeral is what is written of its number
 pub written : (text : List ℕ) → 0 < length (take (numeral_length text) text) → digits_value 10 (take (numeral_length text) text) < 2 ^ 64
     → decimal (digits_value 10 (take (numeral_length text) text)) ≡ take (numeral_length text) text
@@ -91,7 +102,7 @@ written (first ∷ rest) some small = elim (cases_Bool (first == 48)) [
   | inl none ↦ (let same : first ≡ 48 = search rules in rw same (decimal_digit 0 (omega arith)))
   | inr other ↦ (
       let length_is : numeral_length (first ∷ rest) ≡ prefix_len is_digit (first ∷ rest) = rw other refl in
-      run length_is (λ e. absurd_of (sym other ∙ rw e refl)) (recursion_from_All _ _ (run_all is_digit (first ∷ rest)))
+      run length_is (λ e. absurd_of (sym other ∙ rw e refl)) (digits_pass (first ∷ rest))
       )
 ]
   where
@@ -111,7 +122,7 @@ written (first ∷ rest) some small = elim (cases_Bool (first == 48)) [
         (λ zero_first. absurd (other (sym (head (numeral_length (first ∷ rest)) some) ∙ zero_first))) small
 
 -- a number that was read
-number_of_ok : (limit : ℕ) (code : NetCode) (at : ℕ) (ds : List ℕ) (v b : ℕ) → number_of limit code at ds ≡ Ok (v, b)
+number_of_ok : (limit : ℕ) (code : NetCode) (at : ℕ) (ds : List ℕ) (v b : ℕ) → numeral_below limit code at ds ≡ Ok (v, b)
     → (0 < length ds) × (v ≡ digits_value 10 ds) × (v < limit) × (b ≡ at + length ds)
 number_of_ok limit code at [] v b e = absurd (cc)
 number_of_ok limit code at (d ∷ ds) v b e = by_test (nat_lt (digits_value 10 (d ∷ ds)) limit) refl
@@ -140,7 +151,7 @@ module _ (limit : ℕ) (code : NetCode) (word text : List ℕ) (at value next : 
       let number : Reads text at b digits = subst (λ m. Reads text at m digits) (sym behind) here in
       (rw spelled (Reads-trans number (Reads-word word text b n number.within f)), below)
 
-  pub Reads-number : number_at limit code word at text ≡ Ok (value, next) → Reads text at next (decimal value ++ word) × (value < limit)
+  pub Reads-number : number_due limit code word at text ≡ Ok (value, next) → Reads text at next (decimal value ++ word) × (value < limit)
   Reads-number e = by_number (number_below limit code at (drop at text)) refl e
     where
       by_word : (v b : ℕ) (r : Result ℕ TextFault) → number_below limit code at (drop at text) ≡ Ok (v, b) → word_at word b (drop b text) ≡ r

@@ -1,7 +1,7 @@
 -- First faults behind a stage of reading, and the end of a text without one.
 use Rattle.std.proofs.Common.{◌≡◌, ◌≢◌, ℕ, List, [], ◌∷◌, ◌++◌, refl, sym, ◌∙◌, subst, append_assoc, append-nil}
-use Rattle.net_text.specs.Shape.{DeviceLines, Lines, Shaped}
-use Rattle.net_text.specs.NetRefusals.{Stands, NoneStands}
+use Rattle.net_text.specs.Shape.{DeviceLines, PadLines, Shaped}
+use Rattle.net_text.specs.NetRefusals.{NetCodeStands, NoCodeStands}
 use Rattle.net_text.specs.Stages.{InRange, Stage}
 use Rattle.net_text.specs.declared.net_fault.NetCode.{NetCode}
 use Rattle.net_text.specs.declared.net_fault.NetCode.TheVariants.{N1, N2, N3, N4, N5, N6}
@@ -14,10 +14,10 @@ device_lines_map N M f text (DeviceLines.load t net more e n lines) = DeviceLine
 device_lines_map N M f text (DeviceLines.pass t gate a b more e ng na nb lines) =
     DeviceLines.pass t gate a b more e (f gate ng) (f a na) (f b nb) (device_lines_map N M f more lines)
 
-pub lines_map : (N M : List ℕ → Type 0) → ((digits : List ℕ) → N digits → M digits) → (text : List ℕ) → Lines N text → Lines M text
-lines_map N M f text (Lines.devices t lines) = Lines.devices t (device_lines_map N M f t lines)
-lines_map N M f text (Lines.pad t role name net more e bears valid n lines) =
-    Lines.pad t role name net more e bears valid (f net n) (lines_map N M f more lines)
+pub lines_map : (N M : List ℕ → Type 0) → ((digits : List ℕ) → N digits → M digits) → (text : List ℕ) → PadLines N text → PadLines M text
+lines_map N M f text (PadLines.devices t lines) = PadLines.devices t (device_lines_map N M f t lines)
+lines_map N M f text (PadLines.pad t role name net more e bears valid n lines) =
+    PadLines.pad t role name net more e bears valid (f net n) (lines_map N M f more lines)
 
 -- a text with nets in range has the shape
 pub shaped_in_range : (nets : ℕ) (text : List ℕ) → InRange nets text → Shaped text
@@ -55,14 +55,14 @@ end_stop nets front rest stage some = record {
 }
 
 -- nothing stands behind the end, and no code in the text
-pub none_stands : {G : List ℕ → Type 0} (nets : ℕ) (front : List ℕ) → Stage nets front [] (λ tail. tail ≡ []) G → NoneStands front
-none_stands nets front stage code xs [] e s = at_end code (subst (λ l. Stands code l []) (sym (e ∙ append-nil xs)) s)
+pub none_stands : {G : List ℕ → Type 0} (nets : ℕ) (front : List ℕ) → Stage nets front [] (λ tail. tail ≡ []) G → NoCodeStands front
+none_stands nets front stage code xs [] e s = at_end code (subst (λ l. NetCodeStands code l []) (sym (e ∙ append-nil xs)) s)
   where
-    at_end : (code : NetCode) → Stands code front [] → ⊥
+    at_end : (code : NetCode) → NetCodeStands code front [] → ⊥
     at_end N1 s = s.1 (subst Shaped (append-nil front) (stage.back [] refl))
     at_end N2 s = let here = s.0.here in cc
     at_end N3 s = s
     at_end N4 s = s
     at_end N5 s = let here = s.0.here in cc
     at_end N6 s = s.1 refl
-none_stands nets front stage code xs (c ∷ ys) e s = stage.clear code xs c ys e (subst (λ l. Stands code xs l) (sym (append-nil (c ∷ ys))) s)
+none_stands nets front stage code xs (c ∷ ys) e s = stage.clear code xs c ys e (subst (λ l. NetCodeStands code xs l) (sym (append-nil (c ∷ ys))) s)

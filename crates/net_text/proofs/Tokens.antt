@@ -2,7 +2,7 @@
 use Rattle.std.proofs.Common.{◌≡◌, ℕ, Bool, true, false, List, [], ◌∷◌, ◌++◌, refl, sym, ap, ◌∙◌, subst, append_assoc, append-nil}
 use Rattle.std.specs.List.{list_all}
 use Rattle.rx_text.specs.NumberInText.{is_digit}
-use Rattle.net_text.specs.NetRefusals.{NumberBegins, Stands}
+use Rattle.net_text.specs.NetRefusals.{NumberBegins, NetCodeStands}
 use Rattle.net_text.specs.Stages.{Stage, Part}
 use Rattle.net_text.specs.declared.net_fault.NetCode.TheVariants.{N1, N2, N5}
 use Rattle.net_text.proofs.Advancing.{Stops, advance, restage}
@@ -36,8 +36,8 @@ module _ (Is : List ℕ → Type 0) (p : ℕ → Bool) (last : ℕ) (ends : p la
   module _ {Js K G : List ℕ → Type 0} (nets : ℕ) (front token : List ℕ) (is : Is token) (narrow : (other : List ℕ) → Js other → Is other) where
     -- behind the token
     module _ (rest : List ℕ) (stage : Stage nets front (token ++ rest) (Part Is last K) (Part Js last G))
-        (two : (xs : List ℕ) (c : ℕ) (ys : List ℕ) → token ≡ xs ++ c ∷ ys → Stands N2 (front ++ xs) (c ∷ ys ++ rest) → ⊥)
-        (five : (xs : List ℕ) (c : ℕ) (ys : List ℕ) → token ≡ xs ++ c ∷ ys → Stands N5 (front ++ xs) (c ∷ ys ++ rest) → ⊥) where
+        (two : (xs : List ℕ) (c : ℕ) (ys : List ℕ) → token ≡ xs ++ c ∷ ys → NetCodeStands N2 (front ++ xs) (c ∷ ys ++ rest) → ⊥)
+        (five : (xs : List ℕ) (c : ℕ) (ys : List ℕ) → token ≡ xs ++ c ∷ ys → NetCodeStands N5 (front ++ xs) (c ∷ ys ++ rest) → ⊥) where
       behind_token : Stage nets (front ++ token) rest (λ tail. Part Is last K (token ++ tail)) (λ tail. Part Js last G (token ++ tail))
       behind_token =
           advance nets front rest token (Part Is last K) (Part Js last G) stage (last ∷ stage.some.behind)
@@ -60,8 +60,8 @@ module _ (Is : List ℕ → Type 0) (p : ℕ → Bool) (last : ℕ) (ends : p la
 
     -- behind the last byte
     pub token_step : (rest : List ℕ) → Stage nets front (token ++ last ∷ rest) (Part Is last K) (Part Js last G)
-        → ((xs : List ℕ) (c : ℕ) (ys : List ℕ) → token ≡ xs ++ c ∷ ys → Stands N2 (front ++ xs) (c ∷ ys ++ last ∷ rest) → ⊥)
-        → ((xs : List ℕ) (c : ℕ) (ys : List ℕ) → token ≡ xs ++ c ∷ ys → Stands N5 (front ++ xs) (c ∷ ys ++ last ∷ rest) → ⊥)
+        → ((xs : List ℕ) (c : ℕ) (ys : List ℕ) → token ≡ xs ++ c ∷ ys → NetCodeStands N2 (front ++ xs) (c ∷ ys ++ last ∷ rest) → ⊥)
+        → ((xs : List ℕ) (c : ℕ) (ys : List ℕ) → token ≡ xs ++ c ∷ ys → NetCodeStands N5 (front ++ xs) (c ∷ ys ++ last ∷ rest) → ⊥)
         → is_digit last ≡ false → Stage nets ((front ++ token) ++ last ∷ []) rest K G
     token_step rest stage two five no_digit =
         restage nets ((front ++ token) ++ last ∷ []) rest behind_last

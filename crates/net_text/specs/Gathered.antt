@@ -10,8 +10,8 @@ pub record Gathers (held_old held_new : Option (List ℕ)) (waiting_old waiting_
   pub in_order : waiting_old ++ text ≡ gained ++ waiting_new
 
 -- the text was gathered at `Ok`; at `Err` the sink gained a front of the bytes that waited and the text
-abbrev pub Puts : {A E : Type 0} → Result A E → Option (List ℕ) → Option (List ℕ) → List ℕ → List ℕ → List ℕ → Type 0
-Puts result held_old held_new waiting_old waiting_new text =
+abbrev pub PutsBehind : {A E : Type 0} → Result A E → Option (List ℕ) → Option (List ℕ) → List ℕ → List ℕ → List ℕ → Type 0
+PutsBehind result held_old held_new waiting_old waiting_new text =
     MatchResult result
     (λ _. Gathers held_old held_new waiting_old waiting_new text)
     (λ _. AppendsFront held_old held_new (waiting_old ++ text))

@@ -49,17 +49,21 @@ abbrev pub network_text : Circuit → List ℕ
 network_text circuit =
     head_lines circuit.nets ++ flat_map pad_line circuit.pads ++ flat_map device_line circuit.devices ++ codes "end\n"
 
--- The bytes are the text of this circuit, which is a network of at most 16,777,216 nets.
-pub record IsNetworkText (bytes : List ℕ) (circuit : Circuit) : Type 0 where
-  pub text : bytes ≡ network_text circuit
-  pub network : IsNetwork circuit
-  pub few_nets : circuit.nets ≤ 16777216
-
 -- the pad bears a name exactly where its role has one, and it is a name of the specification language
 abbrev pub IsNamed : Pad → Type 0
 IsNamed pad = (bears_name pad.name.role ≡ is_some pad.name.name) × IfSome pad.name.name (λ name. is_name name ≡ true)
 
+-- The bytes are the text of this circuit, whose pads bear names where their roles have them, with at most 16,777,216 nets.
+pub record IsTextOf (bytes : List ℕ) (circuit : Circuit) : Type 0 where
+  pub text : bytes ≡ network_text circuit
+  pub named : All IsNamed circuit.pads
+  pub few_nets : circuit.nets ≤ 16777216
+
+-- The bytes are the text of this circuit, which is a network.
+pub record IsNetworkText (bytes : List ℕ) (circuit : Circuit) : Type 0 where
+  pub text_of : IsTextOf bytes circuit
+  pub network : IsNetwork circuit
+
 -- One text is the text of one network at most.
 abbrev pub TextIsOfOneNetwork : Type 0
-TextIsOfOneNetwork =
-    (bytes : List ℕ) (a b : Circuit) → All IsNamed a.pads → All IsNamed b.pads → IsNetworkText bytes a → IsNetworkText bytes b → a ≡ b
+TextIsOfOneNetwork = (bytes : List ℕ) (a b : Circuit) → IsNetworkText bytes a → IsNetworkText bytes b → a ≡ b

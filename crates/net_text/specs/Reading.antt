@@ -60,15 +60,15 @@ abbrev pub later_lines : List LineKind
 later_lines = Pass ∷ Load ∷ End ∷ []
 
 -- the number that these digits write, where there are some and it is below the limit; the place behind them
-abbrev pub number_of : ℕ → NetCode → ℕ → List ℕ → Result (ℕ × ℕ) TextFault
-number_of limit code at [] = syntax_at at
-number_of limit code at (first ∷ digits) =
+abbrev pub numeral_below : ℕ → NetCode → ℕ → List ℕ → Result (ℕ × ℕ) TextFault
+numeral_below limit code at [] = syntax_at at
+numeral_below limit code at (first ∷ digits) =
     if nat_lt (digits_value 10 (first ∷ digits)) limit then Ok (digits_value 10 (first ∷ digits), at + length (first ∷ digits))
     else Err (record { code = code; at = at })
 
 -- the number at the front of a text from this place on
 abbrev pub number_below : ℕ → NetCode → ℕ → List ℕ → Result (ℕ × ℕ) TextFault
-number_below limit code at text = number_of limit code at (take (numeral_length text) text)
+number_below limit code at text = numeral_below limit code at (take (numeral_length text) text)
 
 -- what was read, with the place behind a word that follows it
 abbrev pub with_read : {A : Type 0} → A → Result ℕ TextFault → Result (A × ℕ) TextFault
@@ -81,8 +81,8 @@ number_then word text (Err fault) = Err fault
 number_then word text (Ok read) = with_read read.0 (word_at word read.1 (drop read.1 text))
 
 -- the number at this place of the text, and the word behind it
-abbrev pub number_at : ℕ → NetCode → List ℕ → ℕ → List ℕ → Result (ℕ × ℕ) TextFault
-number_at limit code word at text = number_then word text (number_below limit code at (drop at text))
+abbrev pub number_due : ℕ → NetCode → List ℕ → ℕ → List ℕ → Result (ℕ × ℕ) TextFault
+number_due limit code word at text = number_then word text (number_below limit code at (drop at text))
 
 -- how many bytes at the front stand in names, up to the most that a name has
 abbrev pub name_length : List ℕ → ℕ

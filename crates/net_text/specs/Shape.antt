@@ -35,11 +35,11 @@ module _ (IsNumber : List ℕ → Type 0) where
         → IsNumber gate → IsNumber a → IsNumber b → DeviceLines more → DeviceLines text
 
   -- lines of pads, which bear names where their roles do, and then those of the devices
-  pub data Lines : List ℕ → Type 0 where
-    devices : (text : List ℕ) → DeviceLines text → Lines text
+  pub data PadLines : List ℕ → Type 0 where
+    devices : (text : List ℕ) → DeviceLines text → PadLines text
     pad : (text : List ℕ) (role : Role) (name : Option (List ℕ)) (net more : List ℕ)
         → text ≡ role_word role ++ name_part name ++ codes " " ++ net ++ codes "\n" ++ more
-        → bears_name role ≡ is_some name → IfSome name (λ bytes. is_name bytes ≡ true) → IsNumber net → Lines more → Lines text
+        → bears_name role ≡ is_some name → IfSome name (λ bytes. is_name bytes ≡ true) → IsNumber net → PadLines more → PadLines text
 
 -- The head with a number of nets, and the lines, where these are the numbers that may stand.
 pub record Shape (IsCount IsNumber : List ℕ → Type 0) (text : List ℕ) : Type 0 where
@@ -47,7 +47,7 @@ pub record Shape (IsCount IsNumber : List ℕ → Type 0) (text : List ℕ) : Ty
   pub more : List ℕ
   pub is : text ≡ head ++ count ++ codes "\n" ++ more
   pub counted : IsCount count
-  pub lines : Lines IsNumber more
+  pub lines : PadLines IsNumber more
 
 -- The text has the shape of a network's, with numbers of any size.
 abbrev pub Shaped : List ℕ → Type 0

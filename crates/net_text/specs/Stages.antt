@@ -4,8 +4,8 @@ use Rattle.std.specs.Str.Parse.{digits_value}
 use Rattle.rx_text.specs.Name.{is_name}
 use Rattle.rx_text.specs.declared.pad_name.Role.{Role}
 use Rattle.rx_text.specs.declared.pad_name.Role.TheVariants.{Input, Output}
-use Rattle.net_text.specs.Shape.{IsNumeral, DeviceLines, Lines, Shape, Shaped, head, front_number}
-use Rattle.net_text.specs.NetRefusals.{Stands, NoneWithin}
+use Rattle.net_text.specs.Shape.{IsNumeral, DeviceLines, PadLines, Shape, Shaped, head, front_number}
+use Rattle.net_text.specs.NetRefusals.{NetCodeStands, NoCodeWithin}
 use Rattle.net_text.specs.declared.words.TextFault.{TextFault}
 use Rattle.net_text.specs.declared.line_kind.LineKind.{LineKind}
 use Rattle.net_text.specs.declared.line_kind.LineKind.TheVariants.{Pad, Pass, Load, End}
@@ -22,16 +22,16 @@ abbrev pub IsName : List ℕ → Type 0
 IsName bytes = is_name bytes ≡ true
 
 -- a numeral whose value is below the limit
-abbrev pub IsBelow : ℕ → List ℕ → Type 0
-IsBelow limit digits = IsNumeral digits × (digits_value 10 digits < limit)
+abbrev pub IsNumeralBelow : ℕ → List ℕ → Type 0
+IsNumeralBelow limit digits = IsNumeral digits × (digits_value 10 digits < limit)
 
 -- the shape with so many nets at most as a text may have, and nets below this number
 abbrev pub InRange : ℕ → List ℕ → Type 0
-InRange nets text = Shape (IsBelow 16777217) (IsBelow nets) text
+InRange nets text = Shape (IsNumeralBelow 16777217) (IsNumeralBelow nets) text
 
 -- the net of a pad, and the lines behind it
 abbrev pub PadNet : (List ℕ → Type 0) → List ℕ → Type 0
-PadNet IsNumber = Part IsNumber 10 (Lines IsNumber)
+PadNet IsNumber = Part IsNumber 10 (PadLines IsNumber)
 
 -- what follows the word of a role
 abbrev pub BehindRole : Role → (List ℕ → Type 0) → List ℕ → Type 0
@@ -60,7 +60,7 @@ BehindWord End IsNumber = λ text. text ≡ []
 
 -- the lines that may follow
 abbrev pub LinesDue : Bool → (List ℕ → Type 0) → List ℕ → Type 0
-LinesDue true IsNumber = Lines IsNumber
+LinesDue true IsNumber = PadLines IsNumber
 LinesDue false IsNumber = DeviceLines IsNumber
 
 -- Exactly these bytes follow the front in texts of the shape, and these where the nets are in range; some do; and no code
@@ -71,11 +71,11 @@ pub record Stage (nets : ℕ) (front rest : List ℕ) (Follows FollowsInRange : 
   pub ranged : (tail : List ℕ) → InRange nets (front ++ tail) → FollowsInRange tail
   pub tail : List ℕ
   pub some : Follows tail
-  pub clear : NoneWithin front rest
+  pub clear : NoCodeWithin front rest
 
 -- Such bytes are due behind the front, and the number of nets stands within it.
 pub record Due (nets : ℕ) (front rest : List ℕ) (Follows : (List ℕ → Type 0) → List ℕ → Type 0) : Type 0 where
-  pub stage : Stage nets front rest (Follows IsNumeral) (Follows (IsBelow nets))
+  pub stage : Stage nets front rest (Follows IsNumeral) (Follows (IsNumeralBelow nets))
   pub more : List ℕ
   pub behind_head : front ≡ head ++ more
   pub counted : more ≢ []
@@ -92,5 +92,5 @@ EndsInSpace front = (before : List ℕ) × (front ≡ before ++ codes " ")
 -- the fault is the first that stands in the text
 pub record IsFirst (text : List ℕ) (fault : TextFault) : Type 0 where
   pub within : fault.at ≤ length text
-  pub stands : Stands fault.code (take fault.at text) (drop fault.at text)
-  pub first : NoneWithin (take fault.at text) (drop fault.at text)
+  pub stands : NetCodeStands fault.code (take fault.at text) (drop fault.at text)
+  pub first : NoCodeWithin (take fault.at text) (drop fault.at text)

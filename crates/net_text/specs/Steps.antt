@@ -12,7 +12,7 @@ use Rattle.rx_text.specs.declared.place.Place.TheVariants.{Text}
 use Rattle.switch_net.specs.Validity.{first_repeat, first_missing}
 use Rattle.net_text.specs.declared.net_fault.NetCode.{NetCode}
 use Rattle.net_text.specs.declared.net_fault.NetCode.TheVariants.{N3, N4}
-use Rattle.net_text.specs.NetRefusals.{NoneStands}
+use Rattle.net_text.specs.NetRefusals.{NoCodeStands}
 use Rattle.net_text.specs.Stages.{DueAt, LinesDue, IsFirst}
 use Rattle.net_text.specs.declared.reading.Stop.{Stop}
 use Rattle.net_text.specs.declared.reading.Stop.TheVariants as stop
@@ -71,7 +71,7 @@ pub record IsRead (text : List ℕ) (nets : ℕ) (pads : List Pad) (devices : Li
   pub before : ℕ
   pub parts : ReadTo text nets pads devices before
   pub whole : text ≡ take before text ++ codes "end\n"
-  pub clear : NoneStands text
+  pub clear : NoCodeStands text
 
 -- one more line, which ends at the place, or is the last one
 abbrev pub ReadLine : List ℕ → ℕ → List Pad → List Device → ℕ → Option ℕ → Type 0

@@ -18,7 +18,10 @@ mod reading;
 mod words;
 mod writing;
 
-pub use laws::{refusals_stand_in_the_text, text_is_of_one_network, texts_are_networks_or_refused};
+pub use laws::{
+    refusals_stand_in_the_text, text_is_of_one_network, texts_are_networks_or_refused,
+    written_networks_are_read_back,
+};
 pub use net_fault::{NetCode, NetFault, ReadNetFault};
 pub use reading::read_net;
 pub use writing::write_net;

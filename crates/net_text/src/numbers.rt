@@ -5,7 +5,7 @@ ghost use Rattle.std.specs.List.{prefix_len};
 ghost use Rattle.rx_text.specs.Name.{is_name_byte};
 ghost use Rattle.rx_text.specs.NumberInText.{is_digit};
 ghost use Rattle.net_text.specs.Shape.{numeral_length};
-ghost use Rattle.net_text.specs.Reading.{number_below, number_at, name_length, name_at};
+ghost use Rattle.net_text.specs.Reading.{number_below, number_due, name_length, name_at};
 
 use crate::net_fault::NetCode;
 use crate::words::{TextFault, behind_word, syntax};
@@ -25,7 +25,7 @@ pub fn number_before(
     word: &[u8],
 ) -> Result<(u32, usize), TextFault>
     requires { at ≤ length text.now }
-    ensures { result ≡ number_at limit code word.now at text.now }
+    ensures { result ≡ number_due limit code word.now at text.now }
 {
     let (value, behind) = number_below(text, at, limit, code)?;
     let next = behind_word(text, behind, word)?;

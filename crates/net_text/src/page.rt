@@ -4,7 +4,7 @@ ghost use Rattle.std.specs.Bool.{OnFalse};
 ghost use Rattle.std.specs.Io.KnownBytes.{Appends};
 ghost use Rattle.rx_io.specs.Causes.{Rose};
 ghost use Rattle.rx_io.specs.Streams.{AppendsFront};
-ghost use Rattle.net_text.specs.Gathered.{Puts};
+ghost use Rattle.net_text.specs.Gathered.{PutsBehind};
 
 use rx_io::{Failed, Sink, put_all};
 use std::marker::Model;
@@ -42,7 +42,7 @@ impl Page {
 
     /// Gives the piece to the sink, behind the bytes that wait, or lets it wait with them.
     pub fn put<K: Sink>(&mut self, sink: &mut K, piece: &[u8]) -> Result<(), Failed>
-        ensures bytes { Puts result (K.held sink.old) (K.held sink.new) self.old self.new
+        ensures bytes { PutsBehind result (K.held sink.old) (K.held sink.new) self.old self.new
             piece.now }
         ensures never_falls { K.faults sink.old ≤ K.faults sink.new }
         ensures cause { OnErr result (Rose (K.faults sink.old) (K.faults sink.new)) }

@@ -1,10 +1,10 @@
 // The reader of a network's text.
 
-ghost use Rattle.std.specs.Prelude.{ℕ, ◌≡◌, ◌<◌, ◌≤◌, ◌+◌, ◌-◌, ◌^◌, ◌++◌, [], true, false, nat_lt, if◌then◌else◌, Ok, Err, length, take, drop, All, IsTrue, IfOk, IfErr};
+ghost use Rattle.std.specs.Prelude.{ℕ, ◌≡◌, ◌<◌, ◌≤◌, ◌+◌, ◌-◌, ◌^◌, ◌++◌, [], true, false, nat_lt, if◌then◌else◌, Ok, Err, length, take, drop, IsTrue, IfOk, IfErr};
 ghost use Rattle.std.specs.Fmt.{decimal};
-ghost use Rattle.net_text.specs.NetworkText.{IsNamed, IsNetworkText};
-ghost use Rattle.net_text.specs.NetRefusals.{IsReadFault};
-ghost use Rattle.net_text.specs.Reading.{first_lines, later_lines, line_at, line_word, number_at};
+ghost use Rattle.net_text.specs.NetworkText.{IsNetworkText};
+ghost use Rattle.net_text.specs.NetRefusals.{IsReadNetFault};
+ghost use Rattle.net_text.specs.Reading.{first_lines, later_lines, line_at, line_word, number_due};
 ghost use Rattle.net_text.specs.Stages.{PadNet, BehindRole, BehindPass, LinesDue, DueAt, EndsInSpace, IsFirst};
 ghost use Rattle.net_text.specs.Steps.{Reads, ReadsName, ReadsPad, ReadsDevice, ReadTo, ReadLine, IsRead, StopsFirst, fault_in_line, fault_of_pads};
 ghost use Rattle.rx_text.specs.declared.pad_name.Role.{Role};
@@ -196,8 +196,8 @@ fn read_net_before(
     requires { at ≤ length text.now }
     ensures reads { IfOk result (λ read. Reads text.now at read.1 (decimal read.0.0 ++ word.now)) }
     ensures below { IfOk result (λ read. read.0.0 < nets) }
-    ensures number { IfOk result (λ read. number_at nets N2 word.now at text.now ≡ Ok (read.0.0, read.1)) }
-    ensures fault { IfErr result (λ fault. number_at nets N2 word.now at text.now ≡ Err fault) }
+    ensures number { IfOk result (λ read. number_due nets N2 word.now at text.now ≡ Ok (read.0.0, read.1)) }
+    ensures fault { IfErr result (λ fault. number_due nets N2 word.now at text.now ≡ Err fault) }
 {
     let (number, next) = number_before(text, at, nets, NetCode::N2, word)?;
     Ok((Net(number), next))
@@ -241,8 +241,7 @@ fn read_parts(alloc: Global, text: &[u8]) -> Result<Parts, Stop>
 pub fn read_net(alloc: Global, text: &[u8]) -> Result<Network, ReadNetFault>
     requires { length text.now < 2 ^ 32 - 1 }
     ensures network { IfOk result (λ network. IsNetworkText text.now network) }
-    ensures named { IfOk result (λ network. All IsNamed network.pads) }
-    ensures fault { IfErr result (λ fault. IsReadFault text.now fault) }
+    ensures fault { IfErr result (λ fault. IsReadNetFault text.now fault) }
 {
     faultless_is_network();
     let parts = match read_parts(alloc, text) {

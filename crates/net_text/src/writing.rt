@@ -5,7 +5,7 @@ ghost use Rattle.std.specs.Fmt.{decimal};
 ghost use Rattle.std.specs.List.{flat_map};
 ghost use Rattle.rx_io.specs.Causes.{Rose};
 ghost use Rattle.rx_io.specs.Streams.{AppendsFront};
-ghost use Rattle.net_text.specs.Gathered.{Puts};
+ghost use Rattle.net_text.specs.Gathered.{PutsBehind};
 ghost use Rattle.net_text.specs.NetworkText.{number_part, name_part, role_word, head_lines, pad_line, device_line, network_text};
 
 use crate::page::Page;
@@ -33,7 +33,7 @@ pub fn write_net<K: Sink>(net: &Network, sink: &mut K) -> Result<(), Failed>
 
 /// Writes the text of the network, of which a last part may wait in the page.
 fn put_net<K: Sink>(page: &mut Page, sink: &mut K, net: &Network) -> Result<(), Failed>
-    ensures bytes { Puts result (K.held sink.old) (K.held sink.new) page.old page.new
+    ensures bytes { PutsBehind result (K.held sink.old) (K.held sink.new) page.old page.new
         (network_text net.now) }
     ensures never_falls { K.faults sink.old ≤ K.faults sink.new }
     ensures cause { OnErr result (Rose (K.faults sink.old) (K.faults sink.new)) }
@@ -46,7 +46,7 @@ fn put_net<K: Sink>(page: &mut Page, sink: &mut K, net: &Network) -> Result<(), 
 
 /// Writes the version and the number of nets.
 fn put_head<K: Sink>(page: &mut Page, sink: &mut K, nets: u32) -> Result<(), Failed>
-    ensures bytes { Puts result (K.held sink.old) (K.held sink.new) page.old page.new
+    ensures bytes { PutsBehind result (K.held sink.old) (K.held sink.new) page.old page.new
         (head_lines nets) }
     ensures never_falls { K.faults sink.old ≤ K.faults sink.new }
     ensures cause { OnErr result (Rose (K.faults sink.old) (K.faults sink.new)) }
@@ -58,7 +58,7 @@ fn put_head<K: Sink>(page: &mut Page, sink: &mut K, nets: u32) -> Result<(), Fai
 
 /// Writes a line for each pad.
 fn put_pads<K: Sink>(page: &mut Page, sink: &mut K, pads: &[Pad]) -> Result<(), Failed>
-    ensures bytes { Puts result (K.held sink.old) (K.held sink.new) page.old page.new
+    ensures bytes { PutsBehind result (K.held sink.old) (K.held sink.new) page.old page.new
         (flat_map pad_line pads.now) }
     ensures never_falls { K.faults sink.old ≤ K.faults sink.new }
     ensures cause { OnErr result (Rose (K.faults sink.old) (K.faults sink.new)) }
@@ -71,7 +71,7 @@ fn put_pads<K: Sink>(page: &mut Page, sink: &mut K, pads: &[Pad]) -> Result<(), 
 
 /// Writes a line for each device.
 fn put_devices<K: Sink>(page: &mut Page, sink: &mut K, devices: &[Device]) -> Result<(), Failed>
-    ensures bytes { Puts result (K.held sink.old) (K.held sink.new) page.old page.new
+    ensures bytes { PutsBehind result (K.held sink.old) (K.held sink.new) page.old page.new
         (flat_map device_line devices.now) }
     ensures never_falls { K.faults sink.old ≤ K.faults sink.new }
     ensures cause { OnErr result (Rose (K.faults sink.old) (K.faults sink.new)) }
@@ -84,7 +84,7 @@ fn put_devices<K: Sink>(page: &mut Page, sink: &mut K, devices: &[Device]) -> Re
 
 /// Writes the line of a pad.
 fn put_pad<K: Sink>(page: &mut Page, sink: &mut K, pad: Pad) -> Result<(), Failed>
-    ensures bytes { Puts result (K.held sink.old) (K.held sink.new) page.old page.new
+    ensures bytes { PutsBehind result (K.held sink.old) (K.held sink.new) page.old page.new
         (pad_line pad) }
     ensures never_falls { K.faults sink.old ≤ K.faults sink.new }
     ensures cause { OnErr result (Rose (K.faults sink.old) (K.faults sink.new)) }
@@ -97,7 +97,7 @@ fn put_pad<K: Sink>(page: &mut Page, sink: &mut K, pad: Pad) -> Result<(), Faile
 
 /// Writes the line of a device.
 fn put_device<K: Sink>(page: &mut Page, sink: &mut K, device: Device) -> Result<(), Failed>
-    ensures bytes { Puts result (K.held sink.old) (K.held sink.new) page.old page.new
+    ensures bytes { PutsBehind result (K.held sink.old) (K.held sink.new) page.old page.new
         (device_line device) }
     ensures never_falls { K.faults sink.old ≤ K.faults sink.new }
     ensures cause { OnErr result (Rose (K.faults sink.old) (K.faults sink.new)) }
@@ -120,7 +120,7 @@ fn put_device<K: Sink>(page: &mut Page, sink: &mut K, device: Device) -> Result<
 
 /// Writes a space and the name, if there is one.
 fn put_name<K: Sink>(page: &mut Page, sink: &mut K, name: Option<Name>) -> Result<(), Failed>
-    ensures bytes { Puts result (K.held sink.old) (K.held sink.new) page.old page.new
+    ensures bytes { PutsBehind result (K.held sink.old) (K.held sink.new) page.old page.new
         (name_part name) }
     ensures never_falls { K.faults sink.old ≤ K.faults sink.new }
     ensures cause { OnErr result (Rose (K.faults sink.old) (K.faults sink.new)) }
@@ -136,7 +136,7 @@ fn put_name<K: Sink>(page: &mut Page, sink: &mut K, name: Option<Name>) -> Resul
 
 /// Writes a space and the number.
 fn put_number<K: Sink>(page: &mut Page, sink: &mut K, number: u32) -> Result<(), Failed>
-    ensures bytes { Puts result (K.held sink.old) (K.held sink.new) page.old page.new
+    ensures bytes { PutsBehind result (K.held sink.old) (K.held sink.new) page.old page.new
         (number_part number) }
     ensures never_falls { K.faults sink.old ≤ K.faults sink.new }
     ensures cause { OnErr result (Rose (K.faults sink.old) (K.faults sink.new)) }

@@ -1,6 +1,6 @@
 use Rattle.std.proofs.Common.{◌≡◌, ◌+◌, None, ◌∙◌, inr, ap, sym, arith, rules}
 use Rattle.net_text.specs.Steps.{fault_of_pads}
-use Rattle.net_text.proofs.CircuitFaults.{writes, circuit_fault, faultless}
+use Rattle.net_text.proofs.CircuitFaults.{text_of, circuit_fault, faultless}
 use Rattle.net_text.proofs.reading.read_net.Goals as goal
 
 pub returns-in-Some-clause-fault : goal.returns-in-Some-clause-fault
@@ -10,7 +10,7 @@ returns-in-Some-clause-fault c =
     inr (record {
       clear = c.in-Ok.ensures.read.clear;
       circuit = _;
-      writes = writes c.args.text.now _ _ _ c.in-Ok.ensures.read;
+      text_of = text_of c.args.text.now _ _ _ c.in-Ok.ensures.read;
       fault =
           circuit_fault c.args.text.now _ _ _ c.in-Ok.ensures.read last c.in-Some.fault fault
           (omega (arith, c.len.ensures, c.len-2.ensures, c.in-Ok.parts.pads.ok.0, c.in-Ok.parts.devices.ok.0));

@@ -1,6 +1,6 @@
 use Rattle.std.proofs.Common.{refl, arith}
 use Rattle.net_text.proofs.Gathering.{Gathers-nil}
-use Rattle.net_text.proofs.Lines.{Gathers-line, Puts-line_failed}
+use Rattle.net_text.proofs.Lines.{Gathers-line, PutsBehind-line_failed}
 use Rattle.net_text.proofs.writing.put_devices.Goals as goal
 
 pub loop-device-init : goal.loop-device-init
@@ -14,4 +14,4 @@ loop-device-preserved g c = record {
 
 pub returns-in_err-put_device-clause-bytes : goal.returns-in_err-put_device-clause-bytes
 returns-in_err-put_device-clause-bytes g c =
-    Puts-line_failed _ _ _ _ _ c.loop-device-test.true refl _ _ _ c.from_residual.ensures.0 c.loop-device.invariant.gathered c.in_err-put_device.ensures.bytes
+    PutsBehind-line_failed _ _ _ _ _ c.loop-device-test.true refl _ _ _ c.from_residual.ensures.0 c.loop-device.invariant.gathered c.in_err-put_device.ensures.bytes

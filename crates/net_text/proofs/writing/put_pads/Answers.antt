@@ -1,6 +1,6 @@
 use Rattle.std.proofs.Common.{arith}
 use Rattle.net_text.proofs.Gathering.{Gathers-nil}
-use Rattle.net_text.proofs.Lines.{Gathers-line, Puts-line_failed}
+use Rattle.net_text.proofs.Lines.{Gathers-line, PutsBehind-line_failed}
 use Rattle.net_text.proofs.writing.put_pads.Goals as goal
 
 pub loop-pad-init : goal.loop-pad-init
@@ -14,4 +14,4 @@ loop-pad-preserved g c = record {
 
 pub returns-in_err-put_pad-clause-bytes : goal.returns-in_err-put_pad-clause-bytes
 returns-in_err-put_pad-clause-bytes g c =
-    Puts-line_failed _ _ _ _ _ c.loop-pad-test.true c.pad-item.is _ _ _ c.from_residual.ensures.0 c.loop-pad.invariant.gathered c.in_err-put_pad.ensures.bytes
+    PutsBehind-line_failed _ _ _ _ _ c.loop-pad-test.true c.pad-item.is _ _ _ c.from_residual.ensures.0 c.loop-pad.invariant.gathered c.in_err-put_pad.ensures.bytes

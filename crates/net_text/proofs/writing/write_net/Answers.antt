@@ -1,10 +1,10 @@
-use Rattle.net_text.proofs.Gathering.{Puts-flushed}
+use Rattle.net_text.proofs.Gathering.{PutsBehind-flushed}
 use Rattle.net_text.proofs.writing.write_net.Goals as goal
 
 pub returns-clause-ok : goal.returns-clause-ok
 returns-clause-ok g c =
-    (Puts-flushed _ _ (rw c.new-page.ensures at c.in_ok-put_net.ensures.bytes) c.flush.ensures.ok c.flush.ensures.failed).0
+    (PutsBehind-flushed _ _ (rw c.new-page.ensures at c.in_ok-put_net.ensures.bytes) c.flush.ensures.ok c.flush.ensures.failed).0
 
 pub returns-clause-failed : goal.returns-clause-failed
 returns-clause-failed g c =
-    (Puts-flushed _ _ (rw c.new-page.ensures at c.in_ok-put_net.ensures.bytes) c.flush.ensures.ok c.flush.ensures.failed).1
+    (PutsBehind-flushed _ _ (rw c.new-page.ensures at c.in_ok-put_net.ensures.bytes) c.flush.ensures.ok c.flush.ensures.failed).1
