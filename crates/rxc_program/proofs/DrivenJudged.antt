@@ -1,9 +1,9 @@
 -- Every text is a trace and a network that it drives, or it is refused for one reason.
-use Rattle.std.proofs.Common.{◌≡◌, ◌⊎◌, inl, inr, ⊎_elim, ℕ, ◌+◌, List, Bool, Option, Some, None, All, drop, refl, sym, ap, ◌∙◌, subst}
+use Rattle.std.proofs.Common.{◌≡◌, ◌⊎◌, inl, inr, ⊎_elim, ℕ, ◌+◌, List, Bool, Option, Some, None, drop, refl, sym, ap, ◌∙◌, subst}
 use Rattle.rx_text.specs.declared.place.Place.{Place}
 use Rattle.rx_text.specs.declared.place.Place.TheVariants.{Text}
 use Rattle.switch_net.specs.Circuit.{Circuit}
-use Rattle.net_text.specs.NetworkText.{IsNamed, IsNetworkText, TextIsOfOneNetwork}
+use Rattle.net_text.specs.NetworkText.{IsNetworkText, TextIsOfOneNetwork}
 use Rattle.net_text.specs.declared.net_fault.NetCode.{NetCode}
 use Rattle.switch_sim.specs.TraceLaws.{BeginsWithTrace}
 use Rattle.switch_sim.specs.TraceTexts.{IsTrace, TraceRefusal}
@@ -11,7 +11,7 @@ use Rattle.switch_sim.specs.TraceLines.{first_wrong}
 use Rattle.switch_sim.specs.declared.trace_code.TraceCode.{TraceCode}
 use Rattle.rxc_program.specs.Codes.{net_code, trace_code}
 use Rattle.net_text.specs.NetRefusals.{NetRefusal}
-use Rattle.rxc_program.specs.Driven.{lower, trace_lines, IsDrivenBy, Drives, BreaksTrace, BreaksChip, BreaksWidth, BreaksDriven}
+use Rattle.rxc_program.specs.Simulating.{lower, trace_lines, IsDrivenBy, Drives, BreaksTrace, BreaksChip, BreaksWidth, BreaksDriven}
 use Rattle.rxc_program.specs.declared.status.Code.{Code}
 use Rattle.rxc_program.specs.declared.status.Code.TheVariants.{V2}
 
@@ -26,9 +26,9 @@ pub record TraceLaws : Type 0 where
 
 -- each text is that of one network or is refused for one reason
 pub record NetLaws : Type 0 where
-  pub either : (text : List ℕ) → ((circuit : Circuit) × All IsNamed circuit.pads × IsNetworkText text circuit)
+  pub either : (text : List ℕ) → ((circuit : Circuit) × IsNetworkText text circuit)
       ⊎ ((code : NetCode) × (place : Place) × NetRefusal text code place)
-  pub exclusive : (text : List ℕ) (circuit : Circuit) (code : NetCode) (place : Place) → All IsNamed circuit.pads → IsNetworkText text circuit
+  pub exclusive : (text : List ℕ) (circuit : Circuit) (code : NetCode) (place : Place) → IsNetworkText text circuit
       → NetRefusal text code place → ⊥
   pub one_network : TextIsOfOneNetwork
   pub one_refusal : (text : List ℕ) (code other : NetCode) (place elsewhere : Place) → NetRefusal text code place → NetRefusal text other elsewhere
@@ -42,7 +42,7 @@ pub same_parts : ((text : List ℕ) (some others : List (List Bool)) (place else
 same_parts one_trace one_network text some others circuit other first second =
     let same = one_trace text some others first.place second.place first.trace second.trace in (
       same.0,
-      one_network (drop first.place text) circuit other first.named second.named first.chip
+      one_network (drop first.place text) circuit other first.chip
           (subst (λ at. IsNetworkText (drop at text) other) (sym same.1) second.chip),
     )
 
@@ -64,11 +64,11 @@ module _ (traces : TraceLaws) (nets : NetLaws) (text : List ℕ) where
       with_trace : BeginsWithTrace text
           → ((vectors : List (List Bool)) × (circuit : Circuit) × Drives text vectors circuit) ⊎ ((code : Code) × (place : Place) × BreaksDriven text code place)
       with_trace t = ⊎_elim
-          (λ n. with_parts t.0 n.0 (record { place = t.1; trace = t.2; chip = n.2; named = n.1 }) (first_wrong n.0 t.0) refl)
+          (λ n. with_parts t.0 n.0 (record { place = t.1; trace = t.2; chip = n.1 }) (first_wrong n.0 t.0) refl)
           (λ r. inr (
             net_code r.0,
             lower (trace_lines t.0) r.1,
-            inr (inl (t.0, t.1, t.2, record { named = r.0; within = r.1; refused = r.2; is_code = refl; is_place = refl })),
+            inr (inl (t.0, t.1, t.2, record { within = r.1; no_chip = (r.0, refl, r.2); is_place = refl })),
           ))
           (nets.either (drop t.1 text))
 
@@ -78,8 +78,8 @@ module _ (traces : TraceLaws) (nets : NetLaws) (text : List ℕ) where
   no_chip : (code : Code) (place : Place) (vectors : List (List Bool)) (circuit : Circuit) → BreaksChip text code place → IsDrivenBy text vectors circuit → ⊥
   no_chip code place vectors circuit broken parts =
       let same = traces.one_trace text vectors broken.0 parts.place broken.1 parts.trace broken.2 in
-      nets.exclusive (drop parts.place text) circuit broken.3.named broken.3.within parts.named parts.chip
-      (subst (λ at. NetRefusal (drop at text) broken.3.named broken.3.within) (sym same.1) broken.3.refused)
+      nets.exclusive (drop parts.place text) circuit broken.3.no_chip.0 broken.3.within parts.chip
+      (subst (λ at. NetRefusal (drop at text) broken.3.no_chip.0 broken.3.within) (sym same.1) broken.3.no_chip.2)
 
   pub driven_not_broken : (vectors : List (List Bool)) (circuit : Circuit) (code : Code) (place : Place) → Drives text vectors circuit
       → BreaksDriven text code place → ⊥
@@ -95,10 +95,11 @@ module _ (traces : TraceLaws) (nets : NetLaws) (text : List ℕ) where
   same_chip : (one other : Code) (here there : Place) → BreaksChip text one here → BreaksChip text other there → (one ≡ other) × (here ≡ there)
   same_chip one other here there first second =
       let same = traces.one_trace text first.0 second.0 first.1 second.1 first.2 second.2 in
-      let refused : NetRefusal (drop first.1 text) second.3.named second.3.within =
-      subst (λ at. NetRefusal (drop at text) second.3.named second.3.within) (sym same.1) second.3.refused in
-      let fault = nets.one_refusal (drop first.1 text) first.3.named second.3.named first.3.within second.3.within first.3.refused refused in (
-        first.3.is_code ∙ ap net_code fault.0 ∙ sym second.3.is_code,
+      let refused : NetRefusal (drop first.1 text) second.3.no_chip.0 second.3.within =
+      subst (λ at. NetRefusal (drop at text) second.3.no_chip.0 second.3.within) (sym same.1) second.3.no_chip.2 in
+      let fault =
+      nets.one_refusal (drop first.1 text) first.3.no_chip.0 second.3.no_chip.0 first.3.within second.3.within first.3.no_chip.2 refused in (
+        first.3.no_chip.1 ∙ ap net_code fault.0 ∙ sym second.3.no_chip.1,
         first.3.is_place ∙ ap (λ at. lower (trace_lines first.0) at) fault.1 ∙ ap (λ v. lower (trace_lines v) second.3.within) same.0 ∙ sym second.3.is_place,
       )
 

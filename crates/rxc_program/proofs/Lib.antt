@@ -1,7 +1,10 @@
 pub mod Pieces
-pub mod Judged
+pub mod Names
 pub mod Endings
 pub mod DrivenJudged
+pub mod Judged
 pub mod LowLines
 pub mod Telling
 pub mod Files
+pub mod Answered
+pub mod Promised

@@ -19,7 +19,7 @@ use Rattle.switch_net.specs.declared.network.Level.TheVariants.{Low, High}
 use Rattle.switch_net.specs.declared.network.Pad.{Pad}
 use Rattle.switch_sim.specs.TraceLines.{level_byte, pad_byte, output_bytes, clock_line, lines_from, TraceLines, is_input, input_count, first_wrong}
 use Rattle.rxc_program.proofs.LowLines.{lows, length_lows, low_clock}
-use Rattle.rxc_program.specs.Inputs.{IsNetworkOf}
+use Rattle.rxc_program.specs.Files.{IsNetworkOf}
 use Rattle.rxc_program.specs.Telling.{Tells, TellsWord, numbered_lines, TellsLanguages}
 
 -- ---- the pads

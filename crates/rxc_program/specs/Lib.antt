@@ -1,8 +1,16 @@
+-- Definitions that public contracts cite:
 pub mod Words
 pub mod Codes
-pub mod Driven
-pub mod Inputs
-pub mod Served
-pub mod Telling
 pub mod StatusText
+pub mod Behaviour
+pub mod Endings
+pub mod Files
+pub mod Compiling
+pub mod Simulating
+pub mod Telling
+pub mod Commands
+pub mod Promises
 pub mod Logged
+-- Definitions that serve private contracts alone:
+pub mod Pieces
+pub mod Serving

@@ -1,14 +1,19 @@
 -- What the log takes.
-use Rattle.std.specs.Prelude.{ℕ, ◌⊎◌, List, Option, Result, MatchResult}
-use Rattle.std.specs.Io.KnownBytes.{Appends}
-use Rattle.rx_io.specs.Causes.{Rose}
-use Rattle.rx_io.specs.Streams.{AppendsFront}
+use Rattle.std.specs.Prelude.{◌⊎◌, ℕ, List}
+use Rattle.rxc_program.specs.Endings.{Change, Gained, GainedFront, HasFailed, Untouched}
+use Rattle.rxc_program.specs.StatusText.{status_line}
+use Rattle.rxc_program.specs.declared.status.Status.{Status}
+use Rattle.rxc_program.specs.declared.status.Status.TheVariants.{Done, Refused, Usage, ReadFault, WriteFault, NoMemory}
 
--- the sink took the text at `Ok`, and a front of it at `Err`
-abbrev pub Writes : {E : Type 0} → Result Unit E → Option (List ℕ) → Option (List ℕ) → List ℕ → Type 0
-Writes result held_old held_new text = MatchResult result (λ _. Appends held_old held_new text) (λ _. AppendsFront held_old held_new text)
+-- The log gained the text, or failed and gained a front of it.
+abbrev pub GainsOrFails : {X : Type 0} → Change X → List ℕ → Type 0
+GainsOrFails log text = Gained log text ⊎ (HasFailed log × GainedFront log text)
 
--- the sink took the text, or a front of it and failed
-abbrev pub TakesOrFails : (held_old held_new : Option (List ℕ)) (faults_old faults_new : ℕ) → List ℕ → Type 0
-TakesOrFails held_old held_new faults_old faults_new text =
-    Appends held_old held_new text ⊎ (AppendsFront held_old held_new text × Rose faults_old faults_new)
+-- What the log takes: it is left alone where the run is done, and else told the line of the status.
+abbrev pub IsLogged : {X : Type 0} → Change X → Status → Type 0
+IsLogged log Done = Untouched log
+IsLogged log (Refused code place) = GainsOrFails log (status_line (Refused code place))
+IsLogged log (Usage word) = GainsOrFails log (status_line (Usage word))
+IsLogged log ReadFault = GainsOrFails log (status_line ReadFault)
+IsLogged log WriteFault = GainsOrFails log (status_line WriteFault)
+IsLogged log NoMemory = GainsOrFails log (status_line NoMemory)

@@ -7,9 +7,8 @@ use Rattle.switch_net.specs.Circuit.{Circuit}
 use Rattle.switch_net.specs.Recognition.{IsWordOf}
 use Rattle.switch_sim.specs.TraceLines.{TraceLines}
 use Rattle.switch_sim.specs.TraceTexts.{IsTrace}
-use Rattle.rxc_program.specs.Driven.{Drives}
-use Rattle.rxc_program.specs.Inputs.{Accepts, IsFileOf, IsNetworkOf, StandsFor, most_leaves}
-use Rattle.rxc_program.specs.declared.words.Command.TheVariants.{Sim}
+use Rattle.rxc_program.specs.Files.{FileKind, IsFileOf, IsNetworkOf, most_leaves}
+use Rattle.rxc_program.specs.Simulating.{Drives, IsSimulated, simulating}
 
 -- The byte is `1` where this holds, and `0` where it does not.
 abbrev pub Tells : ℕ → Type 0 → Type 0
@@ -40,15 +39,16 @@ NetworksShowTheirLanguages =
 
 -- The text is a trace of these vectors, each with one bit for each line, and behind it a file of this accepted specification.
 pub record DrivesFile (text : List ℕ) (spec : Specification) (vectors : List (List Bool)) : Type 0 where
+  pub kind : FileKind
   pub source : List ℕ
-  pub accepted : Accepted source most_leaves spec
+  pub accepted : Accepted source (most_leaves kind) spec
   pub place : ℕ
   pub trace : IsTrace text vectors place
-  pub file : IsFileOf spec (drop place text)
+  pub file : IsFileOf kind spec (drop place text)
   pub widths : IsWordOf (length spec.lines) vectors
 
 -- `sim` accepts such a text, and its output tells the languages.
 abbrev pub FilesShowTheirLanguages : Type 0
 FilesShowTheirLanguages =
     (text : List ℕ) (spec : Specification) (vectors : List (List Bool)) → DrivesFile text spec vectors
-    → Accepts Sim text × ((output : List ℕ) → StandsFor Sim text output → TellsLanguages spec vectors output)
+    → simulating.Accepts text × ((output : List ℕ) → IsSimulated text output → TellsLanguages spec vectors output)

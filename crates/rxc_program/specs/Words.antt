@@ -3,15 +3,15 @@ use Rattle.std.specs.Prelude.{ℕ, suc, ◌+◌, ◌&&◌, Bool, true, false, Li
 use Rattle.rxc_program.specs.declared.words.Command.{Command}
 use Rattle.rxc_program.specs.declared.words.Command.TheVariants.{Net, Sim}
 
--- a command, with a test for each of its words
+-- a test for each word of a command, and the command that such words name
 pub record Usage : Type 0 where
-  pub names : Command
   pub tests : List (List ℕ → Bool)
+  pub names : List (List ℕ) → Command
 
 abbrev pub commands : List Usage
 commands =
-    record { names = Net; tests = bytes_eq (codes "net") ∷ [] }
-    ∷ record { names = Sim; tests = bytes_eq (codes "sim") ∷ [] }
+    record { tests = bytes_eq (codes "net") ∷ []; names = λ words. Net }
+    ∷ record { tests = bytes_eq (codes "sim") ∷ []; names = λ words. Sim }
     ∷ []
 
 -- the words are just such as the tests ask for
@@ -28,10 +28,10 @@ goes_on (word ∷ words) [] = 0
 goes_on (word ∷ words) (test ∷ tests) = if test word then suc (goes_on words tests) else 0
 
 -- the command that the words name
-abbrev pub named : List (List ℕ) → Option Command
-named words = option_map (λ usage. usage.names) (find (λ usage. fits words usage.tests) commands)
+abbrev pub command_of : List (List ℕ) → Option Command
+command_of words = option_map (λ usage. usage.names words) (find (λ usage. fits words usage.tests) commands)
 
 -- The number, from 1, of the first word at which no command goes on, where the words are no command.
 abbrev pub wrong_word : List (List ℕ) → Option ℕ
 wrong_word words =
-    if is_some (named words) then None else Some (1 + fold max 0 (map (λ usage. goes_on words usage.tests) commands))
+    if is_some (command_of words) then None else Some (1 + fold max 0 (map (λ usage. goes_on words usage.tests) commands))

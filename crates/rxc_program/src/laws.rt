@@ -1,19 +1,21 @@
 // Laws of inputs and outputs. These functions run nothing: a caller has the law from the contract.
 
 ghost use Rattle.std.specs.Prelude.{◌≡◌, ℕ, List};
-ghost use Rattle.rxc_program.specs.Inputs.{InputsAreJudged, StandsFor};
+ghost use Rattle.rxc_program.specs.Behaviour.{InputsAreJudged};
+ghost use Rattle.rxc_program.specs.Commands.{behaviour};
+ghost use Rattle.rxc_program.specs.Simulating.{IsSimulated};
 ghost use Rattle.rxc_program.specs.Telling.{FilesShowTheirLanguages, NetworksShowTheirLanguages};
-ghost use Rattle.rxc_program.specs.declared.words.Command.TheVariants.{Sim};
+ghost use Rattle.rxc_program.specs.declared.words.Command.{Command};
 
 use net_text::{text_is_of_one_network, texts_are_networks_or_refused};
-use rx_syntax::laws::{accepted_names_are_names, texts_are_accepted_or_refused};
+use rx_syntax::laws::texts_are_accepted_or_refused_at_a_place;
 use switch_sim::{texts_are_traces_or_refused, traces_have_one_output};
 
 /// Every input is accepted by a command or refused by it for one reason, and never both.
 pub fn inputs_are_judged()
-    ensures { InputsAreJudged }
+    ensures { (command : Command) → InputsAreJudged (behaviour command) }
 {
-    texts_are_accepted_or_refused();
+    texts_are_accepted_or_refused_at_a_place();
     texts_are_traces_or_refused();
     texts_are_networks_or_refused();
     text_is_of_one_network();
@@ -21,7 +23,7 @@ pub fn inputs_are_judged()
 
 /// An input of `sim` stands for one output.
 pub fn sim_has_one_output()
-    ensures { (text some others : List ℕ) → StandsFor Sim text some → StandsFor Sim text others → some ≡ others }
+    ensures { (text some others : List ℕ) → IsSimulated text some → IsSimulated text others → some ≡ others }
 {
     texts_are_traces_or_refused();
     text_is_of_one_network();
@@ -35,7 +37,6 @@ pub fn networks_show_their_languages()
     ensures networks { NetworksShowTheirLanguages }
     ensures files { FilesShowTheirLanguages }
 {
-    accepted_names_are_names();
     texts_are_traces_or_refused();
     text_is_of_one_network();
 }

@@ -3,7 +3,9 @@
 ghost use Rattle.std.specs.Prelude.{◌≡◌, ◌≤◌, decimal, flat_map, OnErr};
 ghost use Rattle.std.specs.Fmt.{signed_decimal};
 ghost use Rattle.rx_io.specs.Causes.{Rose};
-ghost use Rattle.rxc_program.specs.Logged.{TakesOrFails, Writes};
+ghost use Rattle.rxc_program.specs.Endings.{change};
+ghost use Rattle.rxc_program.specs.Logged.{IsLogged};
+ghost use Rattle.rxc_program.specs.Pieces.{TakesText};
 ghost use Rattle.rxc_program.specs.declared.status.Status.TheVariants.{Refused};
 ghost use Rattle.rxc_program.specs.Codes.{code_text as text_of_code};
 ghost use Rattle.rxc_program.specs.StatusText.{status_line};
@@ -12,16 +14,21 @@ use crate::status::{Code, Status};
 use rx_io::{Failed, Sink, put_all};
 use rx_text::{NumberText, Place};
 
-// Writes the status's line to the log. A log that fails loses the line or the end of it.
-pub(crate) fn tell<L: Sink>(log: &mut L, status: &Status)
-    ensures line { TakesOrFails (L.held log.old) (L.held log.new) (L.faults log.old) (L.faults log.new) (status_line status.now) }
+/// Tells the log how the run ended, and answers that, whatever the log does. A log that fails loses the line or the end of it.
+pub(crate) fn told<L: Sink>(log: &mut L, status: Status) -> Status
+    ensures same { result ≡ status }
+    ensures line { IsLogged (change L.held L.faults log.old log.new) status }
     ensures count { L.faults log.old ≤ L.faults log.new }
 {
-    let _ = write_line(log, status);
+    if status == Status::Done {
+        return status;
+    }
+    let _ = write_line(log, &status);
+    status
 }
 
 fn write_line<L: Sink>(log: &mut L, status: &Status) -> Result<(), Failed>
-    ensures bytes { Writes result (L.held log.old) (L.held log.new) (status_line status.now) }
+    ensures bytes { TakesText result (L.held log.old) (L.held log.new) (status_line status.now) }
     ensures count { L.faults log.old ≤ L.faults log.new }
     ensures cause { OnErr result (Rose (L.faults log.old) (L.faults log.new)) }
 {
@@ -39,7 +46,7 @@ fn write_line<L: Sink>(log: &mut L, status: &Status) -> Result<(), Failed>
 }
 
 fn write_refusal<L: Sink>(log: &mut L, code: Code, place: &Place) -> Result<(), Failed>
-    ensures bytes { Writes result (L.held log.old) (L.held log.new) (status_line (Refused code place.now)) }
+    ensures bytes { TakesText result (L.held log.old) (L.held log.new) (status_line (Refused code place.now)) }
     ensures count { L.faults log.old ≤ L.faults log.new }
     ensures cause { OnErr result (Rose (L.faults log.old) (L.faults log.new)) }
 {
@@ -125,7 +132,7 @@ fn signed_text(number: i64) -> NumberText
 
 // Writes the pieces one after another.
 fn put_pieces<L: Sink>(log: &mut L, pieces: &[&[u8]]) -> Result<(), Failed>
-    ensures bytes { Writes result (L.held log.old) (L.held log.new) (flat_map (λ piece. piece.now) pieces.now) }
+    ensures bytes { TakesText result (L.held log.old) (L.held log.new) (flat_map (λ piece. piece.now) pieces.now) }
     ensures count { L.faults log.old ≤ L.faults log.new }
     ensures cause { OnErr result (Rose (L.faults log.old) (L.faults log.new)) }
 {

@@ -1,10 +1,17 @@
 //! `rxc`, a silicon compiler for regular expressions: the top call, and the program round it.
 #![tactic(auto)]
 
+ghost use Rattle.std.specs.Prelude.{◌≡◌};
+ghost use Rattle.std.specs.Process.{exit_status};
+ghost use Rattle.rxc_program.specs.Endings.{change};
+ghost use Rattle.rxc_program.specs.Logged.{IsLogged};
+ghost use Rattle.rxc_program.specs.Promises.{RunsCommand};
+ghost use Rattle.rxc_program.specs.StatusText.{exit_number};
+
+mod input;
 mod laws;
 mod log;
 mod net;
-mod serve;
 mod sim;
 mod status;
 mod top;
@@ -16,12 +23,14 @@ pub use top::rxc;
 pub use words::RxWord;
 
 #[cfg(test)]
-mod sim_tests;
+mod rows;
+#[cfg(test)]
+mod sim_rows;
 #[cfg(test)]
 mod tests;
 
-use rx_io::{StdSink, StdSource};
-use std::alloc::AllocError;
+use rx_io::{Sink, Source, StdSink, StdSource};
+use std::alloc::{AllocError, Global};
 use std::env;
 use std::io::ErrorKind;
 use std::process::ExitCode;
@@ -45,6 +54,22 @@ fn command_words(rt: &HostRuntime) -> Result<Vec<RxWord>, AllocError> {
     Ok(words)
 }
 
+// Runs the words, and gives the number with which the process ends.
+fn exit_code<S: Source, O: Sink, L: Sink>(
+    alloc: Global,
+    words: &[RxWord],
+    src: &mut S,
+    out: &mut O,
+    log: &mut L,
+) -> ExitCode
+    ensures { (status : Status) × (exit_status result ≡ exit_number status)
+        × RunsCommand words.now (change S.left S.faults src.old src.new) (change O.held O.faults out.old out.new) status
+        × IsLogged (change L.held L.faults log.old log.new) status }
+{
+    let status = rxc(alloc, words, src, out, log);
+    ExitCode::from(status.exit())
+}
+
 fn main(rt: HostRuntime) -> ExitCode {
     let Ok(words) = command_words(&rt) else {
         return ExitCode::from(NO_MEMORY);
@@ -52,6 +77,5 @@ fn main(rt: HostRuntime) -> ExitCode {
     let mut src = StdSource::new(rt.stdin());
     let mut out = StdSink::new(rt.stdout());
     let mut log = StdSink::new(rt.stderr());
-    let status = rxc(rt.alloc(), &words, &mut src, &mut out, &mut log);
-    ExitCode::from(status.exit())
+    exit_code(rt.alloc(), &words, &mut src, &mut out, &mut log)
 }

@@ -1,41 +1,40 @@
-// The command `sim`: a trace and a network in, the levels of the outputs after each clock out.
+// The command `sim`: a trace and a chip in, the levels of the outputs after each clock out.
 
-ghost use Rattle.std.specs.Prelude.{ℕ, ◌≡◌, ◌<◌, ◌≤◌, ◌+◌, ◌^◌, ◌⊎◌, None, false, length, All, IfErr, IfOk};
-ghost use Rattle.std.specs.Io.KnownBytes.{Appends};
-ghost use Rattle.rx_io.specs.Causes.{Rose};
-ghost use Rattle.rx_io.specs.Streams.{AppendsFront};
+ghost use Rattle.std.specs.Prelude.{ℕ, ◌≡◌, ◌<◌, ◌≤◌, ◌+◌, ◌^◌, length, IfErr, IfOk};
 ghost use Rattle.rx_text.specs.declared.place.Place.TheVariants.{Text};
-ghost use Rattle.net_text.specs.NetworkText.{IsNamed, IsNetworkText};
 ghost use Rattle.switch_sim.specs.TraceTexts.{IsTrace};
-ghost use Rattle.rxc_program.specs.Driven.{BreaksDriven, BreaksTrace, IsDrivenBy, IsNoChip, IsWrongWidth, TakesLines, lower};
-ghost use Rattle.rxc_program.specs.Inputs.{most_input_bytes};
-ghost use Rattle.rxc_program.specs.Served.{StopsBy, TakesOutput, writes};
-ghost use Rattle.rxc_program.specs.StatusText.{usage_word};
-ghost use Rattle.rxc_program.specs.declared.words.Command.TheVariants.{Sim};
+ghost use Rattle.rxc_program.specs.Behaviour.{most_input_bytes};
+ghost use Rattle.rxc_program.specs.Endings.{change, CommandRun};
+ghost use Rattle.rxc_program.specs.Serving.{AnswersText, StopsBy, TakesLines};
+ghost use Rattle.rxc_program.specs.Simulating.{BreaksBehind, BreaksDriven, BreaksTrace, IsChip, IsDrivenBy, lower, simulating};
 
+use crate::input::read_input;
 use crate::status::{Code, Status};
 use net_text::{ReadNetFault, read_net, refusals_stand_in_the_text};
-use rx_io::Sink;
+use rx_io::{Sink, Source};
 use rx_text::Place;
 use std::alloc::Global;
 use switch_net::Network;
 use switch_sim::{ReadTraceFault, RunFault, Trace, read_trace, run_trace};
 
-/// Runs the network of the text through the trace before it.
-pub(crate) fn simulate<O: Sink>(alloc: Global, text: &[u8], out: &mut O) -> Status
+/// Reads a trace and a chip, runs the chip through the trace, and writes a line after each clock.
+pub(crate) fn sim<S: Source, O: Sink>(alloc: Global, src: &mut S, out: &mut O) -> Status
+    ensures { CommandRun simulating (change S.left S.faults src.old src.new) (change O.held O.faults out.old out.new) result }
+{
+    match read_input(alloc, src) {
+        Ok(text) => answer(alloc, &text, out),
+        Err(status) => status,
+    }
+}
+
+/// Runs the chip of the text through the trace before it.
+fn answer<O: Sink>(alloc: Global, text: &[u8], out: &mut O) -> Status
     requires { length text.now ≤ most_input_bytes }
-    ensures done { result ≡ Status.Done → TakesOutput Sim text.now (Appends (O.held out.old) (O.held out.new)) }
-    ensures write_fault { result ≡ Status.WriteFault → TakesOutput Sim text.now (AppendsFront (O.held out.old) (O.held out.new)) }
-    ensures no_memory { result ≡ Status.NoMemory
-        → (out.new ≡ out.old) ⊎ TakesOutput Sim text.now (AppendsFront (O.held out.old) (O.held out.new)) }
-    ensures write_cause { result ≡ Status.WriteFault → Rose (O.faults out.old) (O.faults out.new) }
-    ensures refused { (code : Code) (place : Place) → result ≡ Status.Refused code place → BreaksDriven text.now code place }
-    ensures read { (result ≡ Status.ReadFault → ⊥) × (usage_word result ≡ None) }
-    ensures unwritten { writes Sim result ≡ false → out.new ≡ out.old }
+    ensures answers { AnswersText simulating (change O.held O.faults out.old out.new) text.now result }
     ensures count { O.faults out.old ≤ O.faults out.new }
 {
     match read_driven(alloc, text) {
-        Ok((trace, network)) => run(alloc, &network, &trace, out),
+        Ok((trace, network)) => run_through(alloc, &network, &trace, out),
         Err(status) => status,
     }
 }
@@ -69,13 +68,12 @@ fn trace_of(alloc: Global, text: &[u8]) -> Result<(Trace, usize), Status>
     }
 }
 
-/// The network whose text stands behind so many lines.
+/// The network of the chip whose text stands behind so many lines.
 fn chip_of(alloc: Global, chip: &[u8], lines: u32) -> Result<Network, Status>
     requires within { length chip.now ≤ most_input_bytes }
     requires few { lines ≤ 10001 }
-    ensures network { IfOk result (λ network. IsNetworkText chip.now network) }
-    ensures named { IfOk result (λ network. All IsNamed network.pads) }
-    ensures status { IfErr result (StopsBy (IsNoChip chip.now lines)) }
+    ensures network { IfOk result (λ network. IsChip chip.now network) }
+    ensures status { IfErr result (StopsBy (BreaksBehind chip.now lines)) }
 {
     refusals_stand_in_the_text();
     match read_net(alloc, chip) {
@@ -103,15 +101,9 @@ fn lower(place: Place, lines: u32) -> Place
 }
 
 /// Runs the network through the trace.
-fn run<O: Sink>(alloc: Global, network: &Network, trace: &Trace, out: &mut O) -> Status
+fn run_through<O: Sink>(alloc: Global, network: &Network, trace: &Trace, out: &mut O) -> Status
     requires { length trace.now ≤ 10000 }
-    ensures done { result ≡ Status.Done → TakesLines network.now trace.now (Appends (O.held out.old) (O.held out.new)) }
-    ensures write_fault { result ≡ Status.WriteFault → TakesLines network.now trace.now (AppendsFront (O.held out.old) (O.held out.new)) }
-    ensures no_memory { result ≡ Status.NoMemory → TakesLines network.now trace.now (AppendsFront (O.held out.old) (O.held out.new)) }
-    ensures write_cause { result ≡ Status.WriteFault → Rose (O.faults out.old) (O.faults out.new) }
-    ensures refused { (code : Code) (place : Place) → result ≡ Status.Refused code place → IsWrongWidth network.now trace.now code place }
-    ensures read { (result ≡ Status.ReadFault → ⊥) × (usage_word result ≡ None) }
-    ensures unwritten { writes Sim result ≡ false → out.new ≡ out.old }
+    ensures taken { TakesLines (change O.held O.faults out.old out.new) network.now trace.now result }
     ensures count { O.faults out.old ≤ O.faults out.new }
 {
     match run_trace(alloc, network, trace, out) {

@@ -2,7 +2,7 @@
 
 ghost use Rattle.std.specs.Prelude.{◌≡◌, ◌<◌, ◌^◌, ◌==◌, length, bytes_eq, Some, Ok, Err, IfOk, if◌then◌else◌};
 ghost use Rattle.std.specs.Result.{result_err};
-ghost use Rattle.rxc_program.specs.Words.{named, wrong_word};
+ghost use Rattle.rxc_program.specs.Words.{command_of, wrong_word};
 
 use std::marker::Model;
 
@@ -47,7 +47,7 @@ pub enum Command {
 
 /// The command that the words name. An error is the number of the first word, from 1, at which no command goes on.
 pub(crate) fn named_command(words: &[RxWord]) -> Result<Command, u32>
-    ensures command { IfOk result (λ command. named words.now ≡ Some command) }
+    ensures command { IfOk result (λ command. command_of words.now ≡ Some command) }
     ensures wrong { result_err result ≡ wrong_word words.now }
 {
     match words {

@@ -5,7 +5,7 @@ use Rattle.rxc_program.proofs.laws.inputs_are_judged.Goals as goal
 -- src/laws.rt
 pub returns : goal.returns
 returns c =
-    let law = c.texts_are_accepted_or_refused.ensures in
+    let law = c.texts_are_accepted_or_refused_at_a_place.ensures in
     let trace = c.texts_are_traces_or_refused.ensures in
     let net = c.texts_are_networks_or_refused.ensures in
     let traces : TraceLaws = record { either = trace.either; exclusive = trace.exclusive; one_trace = trace.one_trace; one_refusal = trace.one_refusal } in

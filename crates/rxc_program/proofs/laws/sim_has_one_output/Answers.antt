@@ -7,7 +7,9 @@ use Rattle.rxc_program.proofs.laws.sim_has_one_output.Goals as goal
 pub returns : goal.returns
 returns c = λ text some others first second.
     let same =
-    same_parts c.texts_are_traces_or_refused.ensures.one_trace c.text_is_of_one_network.ensures text first.0 second.0 first.1 second.1 first.2.parts second.2.parts in
-    let shown : TraceLines first.1 first.0 others =
-    subst (λ circuit. TraceLines circuit first.0 others) (sym same.1) (subst (λ vectors. TraceLines second.1 vectors others) (sym same.0) second.3) in
-    c.traces_have_one_output.ensures first.1 first.2.parts.chip.network first.0 some others first.3 shown
+    same_parts c.texts_are_traces_or_refused.ensures.one_trace c.text_is_of_one_network.ensures text
+    first.vectors second.vectors first.circuit second.circuit first.drives.parts second.drives.parts in
+    let shown : TraceLines first.circuit first.vectors others =
+    subst (λ circuit. TraceLines circuit first.vectors others) (sym same.1)
+    (subst (λ vectors. TraceLines second.circuit vectors others) (sym same.0) second.shown) in
+    c.traces_have_one_output.ensures first.circuit first.drives.parts.chip.network first.vectors some others first.shown shown

@@ -1,0 +1,31 @@
+-- Files of networks that recognise the languages of a specification.
+use Rattle.std.specs.Prelude.{ℕ, List, length}
+use Rattle.rx_lang.specs.Specification.{Specification, Language}
+use Rattle.switch_net.specs.Circuit.{Circuit}
+use Rattle.switch_net.specs.Recognition.{HasPads, Recognises, ShowsSurely}
+use Rattle.net_text.specs.NetworkText.{IsNetworkText}
+
+-- the kinds of files that are written for a specification
+pub data FileKind : Type 0 where
+  network_file : FileKind
+
+-- the most symbols in the expressions of a specification that is compiled to such a file
+abbrev pub most_leaves : FileKind → ℕ
+most_leaves network_file = 4096
+
+-- The file is of this kind, and stands for this circuit.
+abbrev pub FileStandsFor : FileKind → List ℕ → Circuit → Type 0
+FileStandsFor network_file file circuit = IsNetworkText file circuit
+
+-- A network of the specification: it has the pads of the specification, and from all charges each output is high after t
+-- clocks exactly where the first t input vectors lie in its language; so also in a ternary run, in which no output is unknown.
+pub record IsNetworkOf (spec : Specification) (circuit : Circuit) : Type 0 where
+  pub pads : HasPads circuit spec.lines spec.outputs
+  pub recognises : Recognises circuit (length spec.lines) (Language spec)
+  pub sure : ShowsSurely circuit (length spec.lines) (Language spec)
+
+-- The file is of this kind, and stands for a network of the specification.
+pub record IsFileOf (kind : FileKind) (spec : Specification) (file : List ℕ) : Type 0 where
+  pub circuit : Circuit
+  pub stands : FileStandsFor kind file circuit
+  pub compiled : IsNetworkOf spec circuit
