@@ -21,13 +21,15 @@ AllAreCarried circuit rename (v ∷ vs) [] = ⊥
 AllAreCarried circuit rename (v ∷ vs) (w ∷ ws) = AreCarried circuit rename v w × AllAreCarried circuit rename vs ws
 
 -- From carried charges each step of the one has a carried step of the other, and each of the other has one of the one.
-abbrev pub StepAlike : {X : Type 0} → Circuit → (ℕ → ℕ) → ((ℕ → X) → (ℕ → X) → Type 0) → ((ℕ → X) → (ℕ → X) → Type 0) → Type 0
+abbrev pub StepAlike : {X : Type 0} → Circuit → (ℕ → ℕ) → ((ℕ → X) → (ℕ → X) → Type 0) → ((ℕ → X) → (ℕ → X) → Type 0)
+    → Type 0
 StepAlike {X} circuit rename One Other = (q p : ℕ → X) → AreCarried circuit rename q p
     → ((v : ℕ → X) → One q v → (w : ℕ → X) × Other p w × AreCarried circuit rename v w)
     × ((w : ℕ → X) → Other p w → (v : ℕ → X) × One q v × AreCarried circuit rename v w)
 
 -- From carried charges each run of the one has a carried run of the other, and each of the other has one of the one.
-abbrev pub RunAlike : {X : Type 0} → Circuit → (ℕ → ℕ) → ((ℕ → X) → List (ℕ → X) → Type 0) → ((ℕ → X) → List (ℕ → X) → Type 0) → Type 0
+abbrev pub RunAlike : {X : Type 0} → Circuit → (ℕ → ℕ) → ((ℕ → X) → List (ℕ → X) → Type 0)
+    → ((ℕ → X) → List (ℕ → X) → Type 0) → Type 0
 RunAlike {X} circuit rename One Other = (q p : ℕ → X) → AreCarried circuit rename q p
     → ((vs : List (ℕ → X)) → One q vs → (ws : List (ℕ → X)) × Other p ws × AllAreCarried circuit rename vs ws)
     × ((ws : List (ℕ → X)) → Other p ws → (vs : List (ℕ → X)) × One q vs × AllAreCarried circuit rename vs ws)
@@ -40,19 +42,22 @@ SameSettleAlike = (one other : Circuit) → IsNetwork one → IsNetwork other �
 
 -- They take a clock alike.
 abbrev pub SameClockAlike : Type 0
-SameClockAlike = (one other : Circuit) → IsNetwork one → IsNetwork other → (same : IsSameNetwork one other) → (reset : Bool) (lines : List Bool)
+SameClockAlike = (one other : Circuit) → IsNetwork one → IsNetwork other → (same : IsSameNetwork one other)
+    → (reset : Bool) (lines : List Bool)
     → StepAlike one same.rename (Clock one reset lines) (Clock other reset lines)
     × StepAlike one same.rename (ClockLevels one reset lines) (ClockLevels other reset lines)
 
 -- They run alike.
 abbrev pub SameRunAlike : Type 0
-SameRunAlike = (one other : Circuit) → IsNetwork one → IsNetwork other → (same : IsSameNetwork one other) → (lines : List Bool) (u : List (List Bool))
+SameRunAlike = (one other : Circuit) → IsNetwork one → IsNetwork other → (same : IsSameNetwork one other)
+    → (lines : List Bool) (u : List (List Bool))
     → RunAlike one same.rename (λ q vs. Run one q lines u vs) (λ q vs. Run other q lines u vs)
     × RunAlike one same.rename (λ q ls. RunLevels one q lines u ls) (λ q ls. RunLevels other q lines u ls)
 
 -- At each time each output of the second has what that output of the first has.
 abbrev pub AgreeAtOutputs : {X : Type 0} → Circuit → Circuit → List (ℕ → X) → List (ℕ → X) → Type 0
-AgreeAtOutputs {X} one other vs ws = (t output net : ℕ) (w : ℕ → X) → slice_get ws t ≡ Some w → slice_get (output_nets other.pads) output ≡ Some net
+AgreeAtOutputs {X} one other vs ws = (t output net : ℕ) (w : ℕ → X)
+    → slice_get ws t ≡ Some w → slice_get (output_nets other.pads) output ≡ Some net
     → (v : ℕ → X) × (from : ℕ) × (slice_get vs t ≡ Some v) × (slice_get (output_nets one.pads) output ≡ Some from) × (w net ≡ v from)
 
 -- The second network runs where the first runs from all charges, and what it shows at its outputs the first shows as well.

@@ -121,6 +121,7 @@ SettledLevelsAreSure = (circuit : Circuit) → IsNetwork circuit → (drives : L
 
 -- A low or high level of a ternary run from charges of which nothing is known is the value in each run from all charges.
 abbrev pub RunLevelsAreSure : Type 0
-RunLevelsAreSure = (circuit : Circuit) → IsNetwork circuit → (q : Values) (lines : List Bool) (u : List (List Bool)) (ls : List Levels) (vs : List Values)
+RunLevelsAreSure = (circuit : Circuit) → IsNetwork circuit → (q : Values) (lines : List Bool) (u : List (List Bool))
+    (ls : List Levels) (vs : List Values)
     → RunLevels circuit nothing_known lines u ls → Run circuit q lines u vs
     → (t : ℕ) (l : Levels) (v : Values) → slice_get ls t ≡ Some l → slice_get vs t ≡ Some v → Covers circuit l v

@@ -1,5 +1,5 @@
 -- The vectors of a trace, whose bits stand in one list and whose ends in another.
-use Rattle.std.specs.Prelude.{◌≡◌, ℕ, ◌+◌, ◌-◌, ◌≤◌, Bool, List, [], ◌∷◌, ◌++◌, length, take, drop}
+use Rattle.std.specs.Prelude.{◌≡◌, ℕ, ◌+◌, ◌-◌, ◌≤◌, Bool, List, [], ◌∷◌, length, take, drop}
 
 -- the bits are cut at these ends, where so many stand before them
 abbrev pub cut : ℕ → List ℕ → List Bool → List (List Bool)

@@ -1,13 +1,11 @@
 -- Steps of reading a trace.
-use Rattle.std.specs.Prelude.{◌≡◌, ℕ, zero, suc, ◌+◌, ◌<◌, ◌==◌, not, Bool, true, List, [], ◌∷◌, ◌++◌, map, take, drop, length, All, Option, Some, None, Result, Ok, Err, if◌then◌else◌, ⊤}
+use Rattle.std.specs.Prelude.{◌≡◌, ℕ, zero, suc, ◌+◌, ◌<◌, ◌==◌, not, Bool, true, List, [], ◌∷◌, ◌++◌, map, take, drop, length, All, Option, Some, None, Result, Ok, Err, if◌then◌else◌}
 use Rattle.rx_text.specs.TextPlace.{is_line_feed}
 use Rattle.switch_sim.specs.TraceCuts.{cut, AreEnds}
-use Rattle.switch_sim.specs.TraceTexts.{is_bit, is_chip, line_fault, chip_word, lines_of, first_fault, TraceRefusal}
+use Rattle.switch_sim.specs.TraceTexts.{is_bit, is_chip, line_fault, chip_word, lines_of, first_fault}
 use Rattle.switch_sim.specs.declared.trace.Line.{Line}
 use Rattle.switch_sim.specs.declared.trace.Line.TheVariants.{Chip, Vector}
 use Rattle.switch_sim.specs.declared.trace_code.TraceSpot.{TraceSpot}
-use Rattle.switch_sim.specs.declared.trace_code.ReadTraceFault.{ReadTraceFault}
-use Rattle.switch_sim.specs.declared.trace_code.ReadTraceFault.TheVariants.{Fault, NoMemory}
 
 abbrev pub not_line_feed : ℕ → Bool
 not_line_feed byte = not (is_line_feed byte)
