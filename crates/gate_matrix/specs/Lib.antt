@@ -1,0 +1,7 @@
+-- Definitions that public contracts cite:
+pub mod Rows
+pub mod Columns
+pub mod Cells
+pub mod Matrices
+pub mod PartRows
+pub mod Drawn
