@@ -1,18 +1,35 @@
 //! Grids of tiles from texts.
 
-ghost use Rattle.std.specs.Prelude.{◌≡◌, ◌→◌, true};
+ghost use Rattle.std.specs.Prelude.{◌≡◌, ◌<◌, true};
+ghost use Rattle.micro_tiles.specs.declared.tile.TheConstants.{TILES};
 ghost use Rattle.stick_grid.specs.Joins.{MeetsRight, MeetsBelow};
+ghost use Rattle.stick_grid.specs.Tilings.{MeetsEast, MeetsSouth};
 
-use micro_tiles::{Side, Tile, port};
+use micro_tiles::{Side, TILES, Tile, port};
 use std::alloc::Global;
 use std::test::Fail;
 use stick_grid::Grid;
 
 /// The grid of one tile.
 fn single(alloc: Global, tile: Tile) -> Result<Grid, Fail> {
+    prove!(tile.number() < TILES);
     let mut tiles = Vec::new(alloc);
     tiles.push(tile)?;
     Ok(Grid::new(alloc, 1, 1, tiles)?)
+}
+
+/// The two tiles carry the same on their common side where the second lies to the east of the first.
+fn meets_east(west: Tile, east: Tile) -> bool
+    ensures { result ≡ true → MeetsEast west east }
+{
+    port(west, Side::East) == port(east, Side::West)
+}
+
+/// The two tiles carry the same on their common side where the second lies to the south of the first.
+fn meets_south(north: Tile, south: Tile) -> bool
+    ensures { result ≡ true → MeetsSouth north south }
+{
+    port(north, Side::South) == port(south, Side::North)
 }
 
 /// The two grids can lie side by side.
@@ -23,8 +40,7 @@ fn meets_right(left: &Grid, right: &Grid) -> bool
         return false;
     }
     for row in 0..left.rows() {
-        let west = left.tile_at(row, left.cols() - 1);
-        if port(west, Side::East) != port(right.tile_at(row, 0), Side::West) {
+        if !meets_east(left.tile_at(row, left.cols() - 1), right.tile_at(row, 0)) {
             return false;
         }
     }
@@ -39,8 +55,7 @@ fn meets_below(upper: &Grid, lower: &Grid) -> bool
         return false;
     }
     for col in 0..upper.cols() {
-        let north = upper.tile_at(upper.rows() - 1, col);
-        if port(north, Side::South) != port(lower.tile_at(0, col), Side::North) {
+        if !meets_south(upper.tile_at(upper.rows() - 1, col), lower.tile_at(0, col)) {
             return false;
         }
     }
