@@ -5,8 +5,8 @@ ghost use Rattle.star_normal.specs.Tables.{parts};
 ghost use Rattle.cell_network.specs.Shapes.{AreSmall};
 ghost use Rattle.cell_network.specs.Home.{AreFew, symbol_net, complement_net, line_net, start_net, end_net, begin_net, shared_net, output_net, master_net, whole_nets, fed_nets, AreInNets, home_numbers, home_of_kind, frame_home};
 
-use crate::no_memory::NoMemory;
 use crate::numbering::{Counts, Numbering};
+use rx_text::NoMemory;
 use star_normal::{Node, NodeKind};
 use std::alloc::Global;
 

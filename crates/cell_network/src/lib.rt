@@ -3,7 +3,6 @@
 
 pub mod home;
 pub mod laws;
-pub mod no_memory;
 pub mod numbering;
 pub mod part;
 pub mod part_net;

@@ -10,7 +10,6 @@ ghost use Rattle.cell_network.specs.Shapes.{number, numbered, AreSmall};
 ghost use Rattle.cell_network.specs.Home.{AreFew};
 ghost use Rattle.cell_network.specs.Parts.{node_at, inn_wire, bundle, wire_numbers, leaf_numbers, pair_numbers, kind_numbers, frame_numbers, ports_from, child_ports, pair_ports, kind_ports, frame_ports, node_part_of, frame_part_of, part_of, NamesSymbol};
 
-use crate::no_memory::NoMemory;
 use crate::numbering::{Counts, Numbering};
 use crate::part_net::PartNet;
 use crate::shapes::{
@@ -18,6 +17,7 @@ use crate::shapes::{
 };
 use nor_net::{Gate, Part, PartPort, Supplies};
 use rx_lang::Spec;
+use rx_text::NoMemory;
 use star_normal::{Node, NodeKind, Tree};
 use std::alloc::Global;
 

@@ -6,12 +6,11 @@ ghost use Rattle.std.specs.List.{range_with_len};
 ghost use Rattle.cell_network.specs.Cells.{eps_at};
 ghost use Rattle.cell_network.specs.Shapes.{gate, numbered, AreSmall, begin_inputs, leaf_gates, pair_gates, right_inputs, end_inputs, kind_gates, mark_gate, mark_gates, mismatch, mismatches, complement_gate, symbol_gate, output_gate, frame_gates, register, kind_transfers};
 
-use crate::no_memory::NoMemory;
 use crate::numbering::Numbering;
 use crate::part_net::PartNet;
 use nor_net::{Gate, Transfer};
 use rx_lang::{PatternBit, Spec, Symbol};
-use rx_text::Role;
+use rx_text::{NoMemory, Role};
 use star_normal::{Node, NodeKind};
 use std::alloc::Global;
 

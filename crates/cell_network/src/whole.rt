@@ -15,7 +15,6 @@ ghost use Rattle.cell_network.specs.Home.{AreFew, AreInNets};
 ghost use Rattle.cell_network.specs.Whole.{plain, pads_from, pads_of, cell_gates, cell_transfers, load_gate, whole_gates, whole_transfers, first_order, second_order, cells_of};
 
 use crate::home::{frame_home, home, in_nets};
-use crate::no_memory::NoMemory;
 use crate::numbering::Counts;
 use crate::part_net::PartNet;
 use crate::shapes::{
@@ -24,7 +23,7 @@ use crate::shapes::{
 use nor_net::laws::clocks_solve_the_equations;
 use nor_net::{Gate, NorNet, Transfer};
 use rx_lang::Spec;
-use rx_text::{Name, PadName, Role};
+use rx_text::{Name, NoMemory, PadName, Role};
 use star_normal::{Node, Tree};
 use std::alloc::Global;
 use switch_net::{Net, Pad};

@@ -5,7 +5,7 @@ ghost use Rattle.std.specs.List.{range_with_len};
 ghost use Rattle.gate_matrix.specs.declared.column.Column.TheVariants.{Load, Gate, Wire, Device, Free};
 ghost use Rattle.gate_matrix.specs.Columns.{column_of, AreWires};
 
-use crate::no_memory::NoMemory;
+use rx_text::NoMemory;
 use std::alloc::Global;
 
 /// What a column holds: loads, the gates of loads, the poly of a net, the devices that the net gates, or nothing but the metal

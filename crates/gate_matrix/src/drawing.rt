@@ -7,11 +7,11 @@ ghost use Rattle.gate_matrix.specs.Drawn.{FitsPart, part_plan};
 
 use crate::column::{Column, columns_of};
 use crate::laws::matrices_are_plans;
-use crate::no_memory::NoMemory;
 use crate::part_rows::part_rows;
 use crate::row::{Row, cell};
 use micro_tiles::Tile;
 use nor_net::Part;
+use rx_text::NoMemory;
 use std::alloc::Global;
 use stick_grid::Grid;
 use stick_grid::laws::same_tiles_agree;

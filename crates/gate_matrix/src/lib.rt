@@ -6,12 +6,11 @@ pub mod column;
 pub mod drawing;
 pub mod heights;
 pub mod laws;
-pub mod no_memory;
 pub mod part_rows;
 pub mod row;
 
 pub use column::Column;
 pub use drawing::draw;
 pub use heights::needed;
-pub use no_memory::NoMemory;
 pub use row::{Row, RowKind, cell};
+pub use rx_text::NoMemory;

@@ -7,10 +7,9 @@ ghost use Rattle.gate_matrix.specs.declared.row.RowKind.TheVariants.{Middle, Bot
 ghost use Rattle.gate_matrix.specs.Rows.{blank_row, closed_row, load_rows, device_rows, gate_rows};
 
 use crate::heights::{has_load, is_output, needed};
-use crate::no_memory::NoMemory;
 use crate::row::{Row, RowKind};
 use nor_net::{Gate, Part, Transfer};
-use rx_text::Role;
+use rx_text::{NoMemory, Role};
 use std::alloc::Global;
 
 /// The rows of the part, behind those that it does not need.

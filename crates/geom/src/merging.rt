@@ -7,9 +7,9 @@ ghost use Rattle.geom.specs.Wholes.{IsChosen, SortsRows, AreLayers};
 
 use crate::layer::Layer;
 use crate::layer_box::Box2;
-use crate::no_memory::NoMemory;
 use crate::stacking::stacked;
 use crate::sweep::row_runs;
+use rx_text::NoMemory;
 use std::alloc::Global;
 
 /// Merges boxes: the result covers the same squares of each layer. In it no two boxes of one layer share a square or

@@ -4,9 +4,9 @@ ghost use Rattle.std.specs.Prelude.{◌≡◌, ◌^◌, ◌<ℤ◌, ◌≤ℤ◌
 ghost use Rattle.geom.specs.RowTrees.{column_at};
 ghost use Rattle.geom.specs.Reaches.{IsLevel, IsReached, Raises};
 
-use crate::no_memory::NoMemory;
 use crate::row_tree::{Band, RowTree};
 use crate::span::Span;
+use rx_text::NoMemory;
 use std::alloc::Global;
 use std::marker::Model;
 

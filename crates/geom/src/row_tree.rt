@@ -5,8 +5,8 @@ ghost use Rattle.std.specs.Int.{int_max, int_min};
 ghost use Rattle.geom.specs.Spans.{InRows, IsEdge};
 ghost use Rattle.geom.specs.RowTrees.{InBand, IsCut, IsEven, IsSound, Leaves, column_at, greatest_of, least_of, lifted, settled};
 
-use crate::no_memory::NoMemory;
 use crate::span::Span;
+use rx_text::NoMemory;
 use std::alloc::Global;
 
 /// Columns from `least` to `greatest`, both included.

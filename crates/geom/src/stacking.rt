@@ -6,7 +6,7 @@ ghost use Rattle.geom.specs.Rows.{Among, Pairwise};
 ghost use Rattle.geom.specs.Columns.{AreStacks, IsBefore, Reaches, Joins, Adds, over_both};
 
 use crate::layer_box::Box2;
-use crate::no_memory::NoMemory;
+use rx_text::NoMemory;
 use std::alloc::Global;
 
 /// The boxes, with those of the same left and right edges joined where they meet or overlap, in order of their left

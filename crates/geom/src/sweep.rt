@@ -10,8 +10,8 @@ ghost use Rattle.geom.specs.Sweeps.{IsStrip, Passes, PutsAside};
 
 use crate::layer::Layer;
 use crate::layer_box::{Box2, FARTHEST_EDGE};
-use crate::no_memory::NoMemory;
 use crate::reach::{LOWEST_EDGE, Level, Reach};
+use rx_text::NoMemory;
 use std::alloc::Global;
 
 /// Columns from `left` up to `right`, in the rows from `bottom` up to `top`.

@@ -2,8 +2,7 @@
 
 ghost use Rattle.std.specs.Prelude.{◌≡◌};
 
-use rx_text::Place;
-use switch_net::NoMemory;
+use rx_text::{NoMemory, Place};
 use thiserror::Error;
 
 /// What is wrong with the text of a network.

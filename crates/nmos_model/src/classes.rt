@@ -4,7 +4,7 @@ ghost use Rattle.std.specs.Prelude.{◌≡◌, ◌<◌, ◌≤◌, ◌+◌, ◌^
 ghost use Rattle.nmos_model.specs.Classes.{IsGraph, IsClassing, class_at};
 ghost use Rattle.nmos_model.specs.Flooding.{IsFlooding, IsOpen, Takes, behind_first, work_left};
 
-use crate::no_memory::NoMemory;
+use rx_text::NoMemory;
 use std::alloc::Global;
 use std::marker::Model;
 

@@ -3,7 +3,7 @@
 ghost use Rattle.std.specs.Prelude.{◌≡◌, [], true, false, IfOk};
 ghost use Rattle.nmos_model.specs.KnownPads.{IsKnown, IsAdded, HasClash};
 
-use crate::no_memory::NoMemory;
+use rx_text::NoMemory;
 use std::alloc::Global;
 use std::collections::{BTreeMap, BTreeSet};
 use switch_net::{NameKey, Pad, name_key};

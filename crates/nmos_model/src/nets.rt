@@ -10,9 +10,9 @@ ghost use Rattle.nmos_model.specs.Rasters.{Shows, number_of};
 use crate::classes::{Classes, classify};
 use crate::conductors::Conductors;
 use crate::network::NetMap;
-use crate::no_memory::NoMemory;
 use crate::raster::{Cover, Frame};
 use geom::Layer;
+use rx_text::NoMemory;
 use std::alloc::Global;
 use std::marker::Model;
 

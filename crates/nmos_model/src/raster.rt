@@ -6,8 +6,8 @@ ghost use Rattle.geom.specs.Squares.{BoxShape, Covered};
 ghost use Rattle.geom.specs.Rows.{Among};
 ghost use Rattle.nmos_model.specs.Rasters.{Holds, IsAmong, Paints, Shows, ShowsBoxes, covers};
 
-use crate::no_memory::NoMemory;
 use geom::{Box2, Layer};
+use rx_text::NoMemory;
 use std::alloc::Global;
 
 /// Which layers cover a square.

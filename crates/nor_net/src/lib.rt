@@ -6,7 +6,6 @@ pub mod examples;
 pub mod gate;
 pub mod laws;
 pub mod netlist;
-pub mod no_memory;
 pub mod part;
 pub mod switch_form;
 
@@ -14,6 +13,6 @@ pub use evaluation::step;
 pub use examples::register_shows;
 pub use gate::{Gate, Transfer};
 pub use netlist::NorNet;
-pub use no_memory::NoMemory;
 pub use part::{Part, PartPort, Supplies};
+pub use rx_text::NoMemory;
 pub use switch_form::to_switch;

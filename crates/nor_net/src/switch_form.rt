@@ -15,8 +15,7 @@ ghost use Rattle.nor_net.specs.SwitchForm.{at, net_of, load_at, pull_downs, tran
 use crate::evaluation::value_at;
 use crate::gate::{Gate, Transfer};
 use crate::netlist::NorNet;
-use crate::no_memory::NoMemory;
-use rx_text::Role;
+use rx_text::{NoMemory, Role};
 use std::alloc::Global;
 use switch_net::{Device, Net, Network, Pad, clocked_logic_settles, told_nets_settle};
 

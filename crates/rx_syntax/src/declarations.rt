@@ -8,9 +8,8 @@ ghost use Rattle.rx_syntax.specs.Accepted.{number_in};
 ghost use Rattle.rx_syntax.specs.NameTables.{no_tables, names_of, declared_by, with_pattern};
 
 use crate::names::Names;
-use crate::no_memory::NoMemory;
 use rx_lang::{PatternBit, Symbol};
-use rx_text::Name;
+use rx_text::{Name, NoMemory};
 use smallvec::SmallVec;
 use std::alloc::Global;
 use std::marker::Model;

@@ -3,8 +3,8 @@
 ghost use Rattle.std.specs.Prelude.{◌≡◌, IfOk, OnOk};
 ghost use Rattle.rx_syntax.specs.NodeBuilder.{chain, empty_group, whole};
 
-use crate::no_memory::NoMemory;
 use crate::node_table::{Join, NodeTable};
+use rx_text::NoMemory;
 
 /// The nodes of an open group: what stands before its last bar, before its last part, and the last part.
 #[derive(Clone, Copy)]

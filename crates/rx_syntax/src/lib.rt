@@ -10,7 +10,6 @@ mod lexeme;
 mod machine;
 mod names;
 mod naming;
-mod no_memory;
 mod node_builder;
 mod node_table;
 mod nodes;
@@ -22,8 +21,8 @@ pub mod shape;
 mod spec_code;
 mod use_kind;
 
-pub use no_memory::NoMemory;
 pub use print::print_spec;
 pub use read::{ReadSpecFault, SpecFault, read_spec};
+pub use rx_text::NoMemory;
 pub use shape::{ShapeFault, check_shape};
 pub use spec_code::SpecCode;

@@ -5,9 +5,8 @@ ghost use Rattle.rx_text.specs.Name.{is_name};
 ghost use Rattle.rx_syntax.specs.Uses.{is_among};
 ghost use Rattle.rx_syntax.specs.Accepted.{number_in};
 
-use crate::no_memory::NoMemory;
 use indexmap::IndexSet;
-use rx_text::Name;
+use rx_text::{Name, NoMemory};
 use std::alloc::Global;
 use std::marker::Model;
 

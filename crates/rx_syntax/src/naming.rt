@@ -13,10 +13,10 @@ ghost use Rattle.rx_syntax.specs.NameSteps.{nothing_read, declared_in, MayFollow
 use crate::declarations::Declarations;
 use crate::lexeme::piece_at;
 use crate::machine::{Due, State};
-use crate::no_memory::NoMemory;
 use crate::spec_code::SpecCode;
 use crate::use_kind::{UseKind, use_of};
 use rx_lang::PatternBit;
+use rx_text::NoMemory;
 use smallvec::SmallVec;
 use std::alloc::Global;
 use thiserror::Error;

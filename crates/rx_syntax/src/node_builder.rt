@@ -10,9 +10,9 @@ use crate::declarations::Declarations;
 use crate::group::Group;
 use crate::kind::Kind;
 use crate::machine::Due;
-use crate::no_memory::NoMemory;
 use crate::node_table::{NodeTable, Sign};
 use rx_lang::ExprNode;
+use rx_text::NoMemory;
 use std::alloc::Global;
 use std::marker::Model;
 

@@ -3,8 +3,8 @@
 ghost use Rattle.std.specs.Prelude.{◌≡◌, ◌<◌, ◌++◌, ◌∷◌, ◌^◌, [], length, IfOk, OnOk};
 ghost use Rattle.rx_syntax.specs.NodeBuilder.{join_node, joined, sign_node, signed};
 
-use crate::no_memory::NoMemory;
 use rx_lang::ExprNode;
+use rx_text::NoMemory;
 use std::alloc::Global;
 use std::marker::Model;
 

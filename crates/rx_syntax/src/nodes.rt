@@ -10,9 +10,9 @@ ghost use Rattle.rx_syntax.specs.NodeTables.{AreNodes};
 use crate::declarations::Declarations;
 use crate::lexeme::piece_at;
 use crate::machine::{Due, State};
-use crate::no_memory::NoMemory;
 use crate::node_builder::NodeBuilder;
 use rx_lang::ExprNode;
+use rx_text::NoMemory;
 use std::alloc::Global;
 
 /// The nodes of the expressions of a text, and the root of each statement, where these are its declarations and no fault

@@ -9,11 +9,10 @@ ghost use Rattle.rx_syntax.specs.Printed.{bounds_text, is_compound, is_union, na
 ghost use Rattle.rx_syntax.specs.Pieces.{IsPiece, Puts, Stacked, node_statement, node_text};
 ghost use Rattle.rx_syntax.specs.declared.print.Piece.TheVariants.{Enclosed, Node};
 
-use crate::no_memory::NoMemory;
 use crate::repeats::needs_version_2;
 use rx_lang::laws::trees_are_made_of_their_children;
 use rx_lang::{ExprNode, PatternBit, Spec, Symbol};
-use rx_text::{Name, NumberText};
+use rx_text::{Name, NoMemory, NumberText};
 use std::alloc::Global;
 
 /// A piece of an expression: the tree of a node, that in parentheses, or what stands between and behind trees.

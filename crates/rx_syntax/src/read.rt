@@ -8,12 +8,11 @@ ghost use Rattle.rx_syntax.specs.NameSteps.{IsNamesFault};
 ghost use Rattle.rx_syntax.specs.SpecRefusal.{IsReadFault};
 
 use crate::naming::{NamesFault, read_names};
-use crate::no_memory::NoMemory;
 use crate::nodes::read_nodes;
 use crate::shape::check_shape;
 use crate::spec_code::SpecCode;
 use rx_lang::Spec;
-use rx_text::{Place, place_at};
+use rx_text::{NoMemory, Place, place_at};
 use std::alloc::Global;
 use thiserror::Error;
 

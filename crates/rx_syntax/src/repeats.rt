@@ -5,8 +5,8 @@ ghost use Rattle.rx_lang.specs.Expression.{Expr};
 ghost use Rattle.rx_lang.specs.Tables.{children, specification, tree_at, tree_of, trees};
 ghost use Rattle.rx_syntax.specs.Printed.{has_repeat, have_repeat, needs_version_2};
 
-use crate::no_memory::NoMemory;
 use rx_lang::{ExprNode, Spec};
+use rx_text::NoMemory;
 use std::alloc::Global;
 
 /// Whether a counted repeat or a `scan` statement stands in the specification.

@@ -6,9 +6,9 @@ ghost use Rattle.star_normal.specs.Labels.{tree_labels, label_of};
 ghost use Rattle.star_normal.specs.Tables.{whole, parts, is_leaf};
 ghost use Rattle.star_normal.specs.Assembly.{Closes, Joins, IsNormal};
 
-use crate::no_memory::NoMemory;
 use crate::node::{Node, NodeKind};
 use crate::tree::Tree;
+use rx_text::NoMemory;
 use std::alloc::Global;
 
 /// The table of the tree with these labels.

@@ -8,11 +8,11 @@ ghost use Rattle.star_normal.specs.Normal.{normal};
 ghost use Rattle.star_normal.specs.Outlines.{AreClosed, AreOutlines, BaseBelow, copied_trees};
 ghost use Rattle.star_normal.specs.Tasks.{base_labels, base_tasks, copy_label, copy_tasks, label, one_labels, one_tasks, sequence_label, signed, single, task_labels, task_tasks};
 
-use crate::no_memory::NoMemory;
 use crate::node::{Node, NodeKind};
 use crate::outlines::{Base, Outline};
 use crate::signs::Signs;
 use rx_lang::ExprNode;
+use rx_text::NoMemory;
 use std::alloc::Global;
 
 /// Copies of an expression that wait for their labels: at least `least`, and `more` further ones behind the first.

@@ -4,9 +4,9 @@ ghost use Rattle.std.specs.Prelude.{◌≡◌, ◌<◌, ◌^◌, length, IfOk};
 ghost use Rattle.star_normal.specs.Sizes.{AreSizes, size_of};
 ghost use Rattle.star_normal.specs.Assembly.{PartsBelow};
 
-use crate::no_memory::NoMemory;
 use crate::node::NodeKind;
 use crate::tree::Tree;
+use rx_text::NoMemory;
 use std::alloc::Global;
 
 /// For each node of the tree, the number of its leaves.

@@ -5,7 +5,6 @@ mod assembly;
 mod labelling;
 pub mod laws;
 mod leaf_counts;
-mod no_memory;
 mod node;
 mod normal_form;
 mod outlines;
@@ -14,7 +13,7 @@ mod statements;
 mod tree;
 
 pub use leaf_counts::sizes;
-pub use no_memory::NoMemory;
 pub use node::{Node, NodeKind};
 pub use normal_form::normalize;
+pub use rx_text::NoMemory;
 pub use tree::Tree;

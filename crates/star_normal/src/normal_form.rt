@@ -11,12 +11,12 @@ ghost use Rattle.star_normal.specs.Tables.{whole, is_leaf};
 ghost use Rattle.star_normal.specs.Laws.{HasLanguages, PartHasWords};
 
 use crate::assembly::assemble;
-use crate::no_memory::NoMemory;
 use crate::outlines::outlines;
 use crate::statements::form_labels;
 use crate::tree::Tree;
 use rx_lang::Spec;
 use rx_lang::laws::{copies_mean_their_repeats, trees_are_made_of_their_children};
+use rx_text::NoMemory;
 use std::alloc::Global;
 
 /// The normal form of the union of all statements, with copies in place of counted repeats. It spells what some `expr` statement

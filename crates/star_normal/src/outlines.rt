@@ -4,9 +4,9 @@
 ghost use Rattle.std.specs.Prelude.{◌≡◌, ◌≤◌, ◌<◌, ◌^◌, length, IfOk};
 ghost use Rattle.star_normal.specs.Outlines.{AreFit, AreOutlines, ChildrenBelow, NodeFits, bare_outline, copied_trees, looped_outline, marked_outline, opted_outline, outline_of, repeated_outline};
 
-use crate::no_memory::NoMemory;
 use crate::signs::Signs;
 use rx_lang::ExprNode;
+use rx_text::NoMemory;
 use std::alloc::Global;
 
 /// What stands below signs.

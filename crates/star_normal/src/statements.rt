@@ -8,11 +8,11 @@ ghost use Rattle.star_normal.specs.Outlines.{AreOutlines, copied_trees, null_at}
 ghost use Rattle.star_normal.specs.Unions.{AreFronts, AreRoots, some_null, scan_node, top_labels, union_labels, part_labels, scan_labels};
 
 use crate::labelling::{ALTERNATIVE, label, put_normal};
-use crate::no_memory::NoMemory;
 use crate::node::Node;
 use crate::outlines::Outline;
 use crate::signs::Signs;
 use rx_lang::ExprNode;
+use rx_text::NoMemory;
 use std::alloc::Global;
 
 /// The labels of the normal form of statements, from the roots of those whose words begin at the reset, and of those whose

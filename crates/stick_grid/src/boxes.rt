@@ -9,10 +9,10 @@ ghost use Rattle.stick_grid.specs.Drawings.{Adds};
 ghost use Rattle.stick_grid.specs.Plans.{plan_of, Covers};
 
 use crate::grid::Grid;
-use crate::no_memory::NoMemory;
 use crate::place::place_of;
 use geom::{Box2, Orient, place};
 use micro_tiles::{TILE_SIDE, Tile, box_at, box_count};
+use rx_text::NoMemory;
 use std::alloc::Global;
 
 /// No turn.

@@ -9,10 +9,10 @@ ghost use Rattle.stick_grid.specs.Plans.{Covers, plan_of};
 ghost use Rattle.stick_grid.specs.Transistors.{IsOfTile, is_depletion, tile_channel};
 
 use crate::grid::Grid;
-use crate::no_memory::NoMemory;
 use crate::place::{Place, place_of};
 use micro_tiles::{Mode, TILE_SIDE, channel_in, transistor_in};
 use nmos_model::Channel;
+use rx_text::NoMemory;
 use std::alloc::Global;
 
 /// The channels of the grid, in lambda: one for each tile that has a transistor, row by row from the north.

@@ -3,8 +3,8 @@
 ghost use Rattle.std.specs.Prelude.{◌≡◌, ◌*◌, ◌<◌, ◌≤◌, ◌^◌, Ok};
 ghost use Rattle.stick_grid.specs.Tilings.{Tiling, IsTiling, tile_at};
 
-use crate::no_memory::NoMemory;
 use micro_tiles::Tile;
+use rx_text::NoMemory;
 use std::alloc::Global;
 use std::marker::Model;
 

@@ -4,9 +4,9 @@ ghost use Rattle.std.specs.Prelude.{◌≡◌, ◌+◌, ◌<◌, IfOk};
 ghost use Rattle.stick_grid.specs.Joins.{IsTransposed, MeetsRight, MeetsBelow, IsBeside, IsAbove, tile_of_two};
 
 use crate::grid::Grid;
-use crate::no_memory::NoMemory;
 use crate::place::{Place, place_of};
 use micro_tiles::{Tile, transposed};
+use rx_text::NoMemory;
 use std::alloc::Global;
 
 impl Grid {

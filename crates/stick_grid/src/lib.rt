@@ -8,10 +8,9 @@ pub mod joining;
 pub mod laws;
 mod nets;
 mod network;
-pub mod no_memory;
 mod piece_graph;
 mod place;
 
 pub use grid::Grid;
 pub use network::grid_network;
-pub use no_memory::NoMemory;
+pub use rx_text::NoMemory;

@@ -6,12 +6,12 @@ ghost use Rattle.stick_grid.specs.NetMaps.{tile_over, class_in, net_of, net_coun
 ghost use Rattle.stick_grid.specs.Plans.{plan_of, Covers};
 
 use crate::grid::Grid;
-use crate::no_memory::NoMemory;
 use crate::piece_graph::Pieces;
 use crate::place::Place;
 use geom::Layer;
 use micro_tiles::{TILE_SIDE, conducts, net_of_square};
 use nmos_model::{Classes, NetMap, classify};
+use rx_text::NoMemory;
 use std::alloc::Global;
 use std::marker::Model;
 

@@ -10,9 +10,9 @@ ghost use Rattle.stick_grid.specs.Plans.{Covers, plan_of};
 use crate::channels::channels_of;
 use crate::grid::Grid;
 use crate::nets::nets_of;
-use crate::no_memory::NoMemory;
 use geom::Label;
 use nmos_model::{ReadChipFault, network_of};
+use rx_text::NoMemory;
 use std::alloc::Global;
 use switch_net::Network;
 

@@ -7,7 +7,7 @@ ghost use Rattle.switch_net.specs.declared.network.Pad.{Pad};
 
 use crate::keys::{NameKey, name_key};
 use crate::network::Pad;
-use crate::no_memory::NoMemory;
+use rx_text::NoMemory;
 use std::alloc::Global;
 use std::collections::BTreeSet;
 

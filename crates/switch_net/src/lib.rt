@@ -6,7 +6,6 @@ pub mod examples;
 mod keys;
 pub mod laws;
 pub mod network;
-mod no_memory;
 pub mod same;
 pub mod settling;
 pub mod ternary;
@@ -16,7 +15,7 @@ pub use examples::{register_stores, small_circuits_settle};
 pub use keys::{NameKey, name_key};
 pub use laws::clocked_logic_settles;
 pub use network::{BadNetwork, Device, Level, Net, Network, Pad, first_missing};
-pub use no_memory::NoMemory;
+pub use rx_text::NoMemory;
 pub use same::{same_networks_agree, same_networks_run_alike};
 pub use settling::{runs_split, settled_values_keep_to_groups};
 pub use ternary::{

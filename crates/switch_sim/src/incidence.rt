@@ -5,7 +5,7 @@ ghost use Rattle.switch_net.specs.ClockedLogic.{NamesBelow};
 ghost use Rattle.switch_net.specs.declared.network.Device.{Device};
 ghost use Rattle.switch_sim.specs.Incidence.{one_end, other_end, EndsAt, IsLeastAbove, IsIncidence, AreEarlier, AreLast};
 
-use crate::no_memory::NoMemory;
+use rx_text::NoMemory;
 use std::alloc::Global;
 use switch_net::{Device, Net};
 

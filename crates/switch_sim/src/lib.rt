@@ -6,7 +6,6 @@ mod incidence;
 mod laws;
 mod marking;
 mod marks;
-mod no_memory;
 mod run;
 mod settling;
 mod sim;
@@ -15,8 +14,8 @@ mod trace_code;
 mod waiting;
 
 pub use laws::{texts_are_traces_or_refused, traces_have_an_output, traces_have_one_output};
-pub use no_memory::NoMemory;
 pub use run::{RunFault, run_trace};
+pub use rx_text::NoMemory;
 pub use sim::Sim;
 pub use trace::{Trace, read_trace};
 pub use trace_code::{ReadTraceFault, TraceCode, TraceFault};

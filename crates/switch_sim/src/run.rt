@@ -8,11 +8,10 @@ ghost use Rattle.rx_io.specs.Streams.{AppendsFront};
 ghost use Rattle.switch_sim.specs.Simulation.{level_at};
 ghost use Rattle.switch_sim.specs.TraceLines.{GainsLines, GainsFront, clock_line, first_wrong, named_wrong, input_count, is_input, level_byte, output_bytes, pad_byte};
 
-use crate::no_memory::NoMemory;
 use crate::sim::Sim;
 use crate::trace::Trace;
 use rx_io::{Failed, Sink, put_all};
-use rx_text::{NumberText, Role};
+use rx_text::{NoMemory, NumberText, Role};
 use std::alloc::Global;
 use switch_net::{Level, Network, Pad, ternary_runs_exist};
 use thiserror::Error;

@@ -10,9 +10,8 @@ ghost use Rattle.switch_sim.specs.TraceReading.{TakesVector};
 ghost use Rattle.switch_sim.specs.TraceReading.{bits_in, LineAt, ended_line, not_line_feed};
 ghost use Rattle.switch_sim.specs.TraceTexts.{IsRefused};
 
-use crate::no_memory::NoMemory;
 use crate::trace_code::{ReadTraceFault, TraceCode, TraceFault, TraceSpot};
-use rx_text::place_at;
+use rx_text::{NoMemory, place_at};
 use std::alloc::Global;
 use std::marker::Model;
 

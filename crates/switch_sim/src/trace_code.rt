@@ -2,8 +2,7 @@
 
 ghost use Rattle.std.specs.Prelude.{◌≡◌};
 
-use crate::no_memory::NoMemory;
-use rx_text::Place;
+use rx_text::{NoMemory, Place};
 use std::alloc::{AllocError, AllocFailed};
 use thiserror::Error;
 

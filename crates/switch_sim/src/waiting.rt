@@ -3,7 +3,7 @@
 ghost use Rattle.std.specs.Prelude.{◌≡◌, ◌<◌, ◌≤◌, ◌+◌, ℕ, None, [], ◌∷◌, ◌++◌, length, IfOk, IfSome};
 ghost use Rattle.switch_sim.specs.Waiting.{Waits};
 
-use crate::no_memory::NoMemory;
+use rx_text::NoMemory;
 use std::alloc::Global;
 use std::marker::Model;
 use switch_net::Net;
