@@ -1,6 +1,6 @@
 -- The reset clears the registers of the network of cells, and everything that it uses is driven.
 use Rattle.std.specs.Prelude.{flat_map}
-use Rattle.std.proofs.Common.{◌≡◌, ◌⊎◌, inl, inr, ℕ, ◌+◌, ◌*◌, ◌<◌, ◌==◌, ◌&&◌, ◌||◌, not, Bool, true, false, if◌then◌else◌, List, [], ◌∷◌, ◌++◌, map, length, slice_get, Some, All, Contains, refl, sym, subst, ◌∙◌, arith, eq-eqb}
+use Rattle.std.proofs.Common.{◌≡◌, ◌⊎◌, inl, inr, ℕ, ◌+◌, ◌*◌, ◌<◌, ◌==◌, ◌&&◌, ◌||◌, not, Bool, true, false, List, [], ◌∷◌, ◌++◌, map, length, slice_get, Some, All, Contains, refl, sym, subst, ◌∙◌, arith, eq-eqb}
 use Rattle.std.specs.List.{AllByRecursion, list_any, list_all, range_with_len}
 use Rattle.std.proofs.lemmas.Bool.{or_left, or_right}
 use Rattle.std.proofs.lemmas.Option.{slice_get_within, get_or_from_slice_get}
@@ -13,8 +13,7 @@ use Rattle.rx_lang.specs.Tables.{Tables, IsSpecification}
 use Rattle.star_normal.specs.declared.node.Node.{Node}
 use Rattle.star_normal.specs.declared.node.NodeKind.{NodeKind}
 use Rattle.star_normal.specs.declared.node.NodeKind.TheVariants.{Leaf, Seq, Alt}
-use Rattle.star_normal.specs.Tables.{TreeTable, IsTree, flags_of}
-use Rattle.star_normal.specs.Tops.{plain_node}
+use Rattle.star_normal.specs.Tables.{TreeTable, IsTree, flags_of, plain_node}
 use Rattle.switch_net.specs.ClockedLogic.{is_fixed}
 use Rattle.switch_net.specs.Validity.{is_same_role}
 use Rattle.switch_net.specs.declared.network.Pad.{Pad}
@@ -26,7 +25,7 @@ use Rattle.cell_network.specs.declared.numbering.Counts.{Counts}
 use Rattle.cell_network.specs.declared.numbering.Numbering.{Numbering}
 use Rattle.cell_network.specs.declared.part_net.PartNet.TheVariants.{Begins, Data, In, Inverse, LeftOut, Master, NotBegins, NotOut, NotRight, NotSymbol, Out, Reset, RightIn, RightOut, Stored, Symbol}
 use Rattle.cell_network.specs.Cells.{eps_at}
-use Rattle.cell_network.specs.Shapes.{NamedGate, number, numbered, gate, begin_inputs, right_inputs, end_inputs, kind_gates, mark_of, mark_gate, mark_gates, pattern_at, complement_gate, symbol_gate, output_gate, frame_gates}
+use Rattle.cell_network.specs.Shapes.{NamedGate, number, numbered, gate, complement_inputs, begin_inputs, right_inputs, end_inputs, kind_gates, mark_of, mark_gate, mark_gates, pattern_at, complement_gate, symbol_gate, output_gate, frame_gates}
 use Rattle.cell_network.specs.Home.{complement_net, symbol_net, start_net, end_net, begin_net, shared_net, output_net, master_net, whole_nets, in_net, home_numbers, home_of_kind, frame_home}
 use Rattle.cell_network.specs.Parts.{NamesSymbol, counts_of, node_at}
 use Rattle.cell_network.specs.Whole.{cell_gates, load_gate, whole_gates, whole_transfers, cells_of}
@@ -191,9 +190,9 @@ module _ (tree : TreeTable) (tables : Tables) (t : IsTree tree) (spec : IsSpecif
   end_driven v lt (Alt l r) e = gate_of v (Alt l r) 1 (gate Out (NotOut ∷ [])) lt e refl
 
   begin_driven : (v : ℕ) → v < length nodes → (kind : NodeKind) → (node_at nodes v).kind ≡ kind → Driven (begin_net c v + 1)
-  begin_driven v lt (Leaf s) e = gate_of v (Leaf s) 2 (gate Begins (NotBegins ∷ [])) lt e refl
-  begin_driven v lt (Seq l r) e = gate_of v (Seq l r) 3 (gate Begins (NotBegins ∷ [])) lt e refl
-  begin_driven v lt (Alt l r) e = gate_of v (Alt l r) 3 (gate Begins (NotBegins ∷ [])) lt e refl
+  begin_driven v lt (Leaf s) e = gate_of v (Leaf s) 2 (gate Begins (begin_inputs (node_at nodes v).scan)) lt e refl
+  begin_driven v lt (Seq l r) e = gate_of v (Seq l r) 3 (gate Begins (begin_inputs (node_at nodes v).scan)) lt e refl
+  begin_driven v lt (Alt l r) e = gate_of v (Alt l r) 3 (gate Begins (begin_inputs (node_at nodes v).scan)) lt e refl
 
   in_driven : (v : ℕ) → Driven (in_net c nodes v)
   in_driven v =
@@ -213,10 +212,15 @@ module _ (tree : TreeTable) (tables : Tables) (t : IsTree tree) (spec : IsSpecif
   abbrev Fed : Numbering → List NamedGate → Type 0
   Fed n gs = AllByRecursion (λ g. AllByRecursion (λ i. Driven (number n i)) g.inputs) gs
 
-  begins_fed : (v l r : ℕ) → v < length nodes → (loops : Bool)
-      → AllByRecursion (λ i. Driven (number (home_numbers c v (in_net c nodes v) l r) i)) (if loops then In ∷ Out ∷ [] else In ∷ [])
-  begins_fed v l r lt true = (in_driven v, (end_driven v lt (node_at nodes v).kind refl, tt))
-  begins_fed v l r lt false = (in_driven v, tt)
+  complement_fed : (v l r : ℕ) → v < length nodes → (scan loops : Bool)
+      → AllByRecursion (λ i. Driven (number (home_numbers c v (in_net c nodes v) l r) i)) (complement_inputs scan loops)
+  complement_fed v l r lt true loops = (by_pad 0 refl, tt)
+  complement_fed v l r lt false true = (in_driven v, (end_driven v lt (node_at nodes v).kind refl, tt))
+  complement_fed v l r lt false false = (in_driven v, tt)
+
+  begins_fed : (v l r : ℕ) (scan : Bool) → Driven (begin_net c v) → AllByRecursion (λ i. Driven (number (home_numbers c v (in_net c nodes v) l r) i)) (begin_inputs scan)
+  begins_fed v l r true driven = tt
+  begins_fed v l r false driven = (driven, tt)
 
   marks_fed : (v : ℕ) (n : Numbering) → v < length nodes → n.out ≡ end_net c v + 1 → n.begins ≡ begin_net c v + 1 → Fed n (mark_gates c.outputs (node_at nodes v))
   marks_fed v n lt out begin =
@@ -253,14 +257,14 @@ module _ (tree : TreeTable) (tables : Tables) (t : IsTree tree) (spec : IsSpecif
       (mark_gates c.outputs (node_at nodes v)) (
         (by_second (end_net c v) (target_at Phi2 _ (second_in tree tables t spec named v s lt e) refl), tt),
         (
-          begins_fed v 0 0 lt (node_at nodes v).loops,
+          complement_fed v 0 0 lt (node_at nodes v).scan (node_at nodes v).loops,
           (
-            (gate_of v (Leaf s) 1 (gate NotBegins (begin_inputs (node_at nodes v))) lt e refl, tt),
+            begins_fed v 0 0 (node_at nodes v).scan (gate_of v (Leaf s) 1 (gate NotBegins (complement_inputs (node_at nodes v).scan (node_at nodes v).loops)) lt e refl),
             (
               (by_gate (symbol_net c + s) (wired.symbol_nor tree tables t spec named s known).output, tt),
               (
                 (
-                  gate_of v (Leaf s) 1 (gate NotBegins (begin_inputs (node_at nodes v))) lt e refl,
+                  gate_of v (Leaf s) 1 (gate NotBegins (complement_inputs (node_at nodes v).scan (node_at nodes v).loops)) lt e refl,
                   (gate_of v (Leaf s) 3 (gate NotSymbol (Symbol s ∷ [])) lt e refl, (by_pad 4 refl, tt)),
                 ),
                 ((by_first (master_net c + 2 + 2 * v) (target_at Phi1 _ (first_in tree tables t spec named v s lt e) refl), tt), tt),
@@ -280,9 +284,9 @@ module _ (tree : TreeTable) (tables : Tables) (t : IsTree tree) (spec : IsSpecif
         (
           (gate_of v (Seq l r) 0 (gate NotOut (end_inputs (eps_at nodes r))) lt e refl, tt),
           (
-            begins_fed v l r lt (node_at nodes v).loops,
+            complement_fed v l r lt (node_at nodes v).scan (node_at nodes v).loops,
             (
-              (gate_of v (Seq l r) 2 (gate NotBegins (begin_inputs (node_at nodes v))) lt e refl, tt),
+              begins_fed v l r (node_at nodes v).scan (gate_of v (Seq l r) 2 (gate NotBegins (complement_inputs (node_at nodes v).scan (node_at nodes v).loops)) lt e refl),
               (
                 right_fed v l r lt ll (eps_at nodes l),
                 ((gate_of v (Seq l r) 4 (gate NotRight (right_inputs (eps_at nodes l))) lt e refl, tt), tt),
@@ -302,9 +306,9 @@ module _ (tree : TreeTable) (tables : Tables) (t : IsTree tree) (spec : IsSpecif
         (
           (gate_of v (Alt l r) 0 (gate NotOut (RightOut ∷ LeftOut ∷ [])) lt e refl, tt),
           (
-            begins_fed v l r lt (node_at nodes v).loops,
+            complement_fed v l r lt (node_at nodes v).scan (node_at nodes v).loops,
             (
-              (gate_of v (Alt l r) 2 (gate NotBegins (begin_inputs (node_at nodes v))) lt e refl, tt),
+              begins_fed v l r (node_at nodes v).scan (gate_of v (Alt l r) 2 (gate NotBegins (complement_inputs (node_at nodes v).scan (node_at nodes v).loops)) lt e refl),
               (
                 (begin_driven v lt (Alt l r) e, tt),
                 ((gate_of v (Alt l r) 4 (gate NotRight (Begins ∷ [])) lt e refl, tt), tt),

@@ -136,6 +136,10 @@ module _ (c : Counts) (tables : Tables) (lines : length tables.lines ≡ c.lines
       )
       (line_pad_fixes 0 (length tables.lines) i i output_pads (omega arith) (omega (arith, lt, lines)))
 
+  -- the high supply
+  pub vdd_fixed : (drive : Drive) → fixed_level (pads_of c tables) (drives_of drive (pads_of c tables)) 0 ≡ Some true
+  vdd_fixed drive = refl
+
   -- the reset its own
   pub reset_fixed : (drive : Drive) → fixed_level (pads_of c tables) (drives_of drive (pads_of c tables)) 4 ≡ Some drive.reset
   reset_fixed drive = refl

@@ -1,6 +1,6 @@
 -- The parts of nodes are parts: their gates, loads, transfers and ports fit.
 use Rattle.std.specs.Prelude.{flat_map}
-use Rattle.std.proofs.Common.{◌≡◌, ◌≢◌, ℕ, zero, suc, ◌+◌, ◌<◌, ◌≤◌, Bool, true, false, if◌then◌else◌, List, [], ◌∷◌, ◌++◌, length, refl, arith, length-append}
+use Rattle.std.proofs.Common.{◌≡◌, ◌≢◌, ℕ, zero, suc, ◌+◌, ◌<◌, ◌≤◌, Bool, true, false, List, [], ◌∷◌, ◌++◌, length, refl, arith, length-append}
 use Rattle.std.specs.List.{AllByRecursion, range_with_len}
 use Rattle.std.proofs.lemmas.List.Elements.{All-from_recursion}
 use Rattle.star_normal.specs.declared.node.Node.{Node}
@@ -12,9 +12,9 @@ use Rattle.nor_net.specs.Part.{IsPartGate}
 use Rattle.cell_network.specs.declared.numbering.Counts.{Counts}
 use Rattle.cell_network.specs.declared.numbering.Numbering.{Numbering}
 use Rattle.cell_network.specs.declared.part_net.PartNet.{PartNet}
-use Rattle.cell_network.specs.declared.part_net.PartNet.TheVariants.{In, Out, NotBegins, Begins, LeftOut, RightOut, NotRight, NotOut}
+use Rattle.cell_network.specs.declared.part_net.PartNet.TheVariants.{NotBegins, Begins, LeftOut, RightOut, NotRight, NotOut}
 use Rattle.cell_network.specs.Cells.{eps_at}
-use Rattle.cell_network.specs.Shapes.{NamedGate, number, numbered, gate, leaf_gates, pair_gates, right_inputs, end_inputs, kind_gates, mark_of, mark_gate, mark_gates}
+use Rattle.cell_network.specs.Shapes.{NamedGate, number, numbered, gate, leaf_gates, pair_gates, complement_inputs, begin_inputs, right_inputs, end_inputs, kind_gates, mark_of, mark_gate, mark_gates}
 use Rattle.cell_network.specs.Parts.{NamesSymbol, inn_wire, bundle, leaf_numbers, pair_numbers, kind_numbers}
 use Rattle.cell_network.proofs.Ranges.{Pairs, all_pairs, each_append, each_map, each_piece, pairs_map}
 
@@ -71,9 +71,9 @@ module _ (c : Counts) where
   leaf_fits node s sl = (
     fits_one _ (inn_wire c + 1) (bundle c + 6) (omega arith) (omega arith),
     (
-      begin node.loops,
+      complement node.scan node.loops,
       (
-        fits_one _ (bundle c + 1) (bundle c) (omega arith) (omega arith),
+        begin node.scan,
         (
           fits_one _ (bundle c + 2) (0 + s) (omega arith) (omega arith),
           (
@@ -89,9 +89,14 @@ module _ (c : Counts) where
     ),
   )
     where
-      begin : (loops : Bool) → Fits (bundle c + 7) (numbered (leaf_numbers c) (gate NotBegins (if loops then In ∷ Out ∷ [] else In ∷ [])))
-      begin true = fits_two _ (bundle c) (inn_wire c) (inn_wire c + 1) (omega arith) (omega arith) (omega arith) (λ e. omega (arith, e))
-      begin false = fits_one _ (bundle c) (inn_wire c) (omega arith) (omega arith)
+      complement : (scan loops : Bool) → Fits (bundle c + 7) (numbered (leaf_numbers c) (gate NotBegins (complement_inputs scan loops)))
+      complement true loops = fits_one _ (bundle c) (inn_wire c + 5) (omega arith) (omega arith)
+      complement false true = fits_two _ (bundle c) (inn_wire c) (inn_wire c + 1) (omega arith) (omega arith) (omega arith) (λ e. omega (arith, e))
+      complement false false = fits_one _ (bundle c) (inn_wire c) (omega arith) (omega arith)
+
+      begin : (scan : Bool) → Fits (bundle c + 7) (numbered (leaf_numbers c) (gate Begins (begin_inputs scan)))
+      begin true = record { out = omega arith; inputs = tt; distinct = tt }
+      begin false = fits_one _ (bundle c + 1) (bundle c) (omega arith) (omega arith)
 
   -- nets of the part of a node with two parts that may be the inputs of one gate
   abbrev MayJoin : List PartNet → Type 0
@@ -113,18 +118,23 @@ module _ (c : Counts) where
     (
       fits_one _ (inn_wire c + 1) (bundle c + 6) (omega arith) (omega arith),
       (
-        begin node.loops,
+        complement node.scan node.loops,
         (
-          fits_one _ (bundle c) (bundle c + 4) (omega arith) (omega arith),
+          begin node.scan,
           (joined NotRight right (omega arith) r, (fits_one _ (bundle c + 2) (bundle c + 5) (omega arith) (omega arith), tt)),
         ),
       ),
     ),
   )
     where
-      begin : (loops : Bool) → Fits (bundle c + 7) (numbered (pair_numbers c) (gate NotBegins (if loops then In ∷ Out ∷ [] else In ∷ [])))
-      begin true = fits_two _ (bundle c + 4) (inn_wire c) (inn_wire c + 1) (omega arith) (omega arith) (omega arith) (λ e. omega (arith, e))
-      begin false = fits_one _ (bundle c + 4) (inn_wire c) (omega arith) (omega arith)
+      complement : (scan loops : Bool) → Fits (bundle c + 7) (numbered (pair_numbers c) (gate NotBegins (complement_inputs scan loops)))
+      complement true loops = fits_one _ (bundle c + 4) (inn_wire c + 5) (omega arith) (omega arith)
+      complement false true = fits_two _ (bundle c + 4) (inn_wire c) (inn_wire c + 1) (omega arith) (omega arith) (omega arith) (λ e. omega (arith, e))
+      complement false false = fits_one _ (bundle c + 4) (inn_wire c) (omega arith) (omega arith)
+
+      begin : (scan : Bool) → Fits (bundle c + 7) (numbered (pair_numbers c) (gate Begins (begin_inputs scan)))
+      begin true = record { out = omega arith; inputs = tt; distinct = tt }
+      begin false = fits_one _ (bundle c) (bundle c + 4) (omega arith) (omega arith)
 
   right_joins : (eps : Bool) → MayJoin (right_inputs eps)
   right_joins true = ((omega arith, (omega arith, tt)), ((λ e. omega (arith, e), tt), (tt, tt)))

@@ -1,11 +1,11 @@
 -- The clocks of the network of cells are a run of cells, so its outputs show the languages of the tree.
-use Rattle.std.proofs.Common.{◌≡◌, ℕ, zero, suc, Bool, true, false, List, [], ◌∷◌, map, length, take, slice_get, Some, refl}
+use Rattle.std.proofs.Common.{◌≡◌, ◌↔◌, ℕ, zero, suc, Bool, true, false, List, [], ◌∷◌, map, length, take, slice_get, Some, refl}
 use Rattle.std.specs.List.{AllByRecursion}
 use Rattle.std.proofs.lemmas.List.Elements.{recursion_from_All}
 use Rattle.rx_lang.specs.Vector.{Bits}
 use Rattle.rx_lang.specs.Specification.{MatchesSymbol, Language}
 use Rattle.rx_lang.specs.Tables.{Tables, IsSpecification, specification}
-use Rattle.star_normal.specs.Laws.{HasLanguages}
+use Rattle.star_normal.specs.Trees.{WholeMarks}
 use Rattle.star_normal.specs.Tables.{TreeTable, IsTree, whole}
 use Rattle.switch_net.specs.Clock.{Drive}
 use Rattle.nor_net.specs.Netlist.{Netlist}
@@ -84,10 +84,9 @@ module _ (solves : ClocksSolve) (tree : TreeTable) (tables : Tables) (t : IsTree
       rw (← same) (left true lines state size)
   run_left lines state u size (suc k) later e = along_left u (clocked net true lines state) (left true lines state size) k later e
 
-  -- Where the tree has the specification's languages the outputs show them.
-  pub shows : HasLanguages (MatchesSymbol tables.symbols) (specification tables).statements (whole tree)
-      → ShowsByClocks net (length tables.lines) (Language (specification tables))
-  shows languages state lines u size wide words time output at values later named_net =
+  -- the outputs show what the tree marks
+  pub shows_marks : ShowsByClocks net (length tables.lines) (WholeMarks (MatchesSymbol tables.symbols) (whole tree))
+  shows_marks state lines u size wide words time output at values later named_net =
       let place = pads.output_at c tables refl refl output at named_net in
       let h = run_left lines state u size time values later in
       let tells = output_tells tree tables t spec named h.before h.older values h.solved output place.0 in
@@ -95,5 +94,12 @@ module _ (solves : ClocksSolve) (tree : TreeTable) (tables : Tables) (t : IsTree
       pull_marks (passes tables.symbols) (MatchesSymbol tables.symbols) (tests_symbols tables.symbols) tree t u (map shown (clocked_run net lines u state))
       (run lines state u size wide (recursion_from_All (λ x. length x ≡ length tables.lines) u words)) time output (shown values)
       (get_map shown (clocked_run net lines u state) time values later) in
-      let language = languages.marks output (take time u) in
-      rw place.1 (λ e. language.0 (marks.0 (tells.0 e)), λ m. tells.1 (marks.1 (language.1 m)))
+      rw place.1 (λ e. marks.0 (tells.0 e), λ m. tells.1 (marks.1 m))
+
+  -- and so a language that is the same
+  pub shows : ((y : ℕ) (u : List Bits) → WholeMarks (MatchesSymbol tables.symbols) (whole tree) y u ↔ Language (specification tables) y u)
+      → ShowsByClocks net (length tables.lines) (Language (specification tables))
+  shows same state lines u size wide words time output at values later named_net =
+      let told = shows_marks state lines u size wide words time output at values later named_net in
+      let marks = same output (take time u) in
+      (λ e. marks.0 (told.0 e), λ m. told.1 (marks.1 m))

@@ -1,5 +1,5 @@
 -- While PHI1 is high the nets of the cells keep what they were after the clock before, but for what the lines decide.
-use Rattle.std.proofs.Common.{◌≡◌, ◌⊎◌, inl, inr, ℕ, zero, suc, ◌+◌, ◌<◌, ◌≤◌, not, Bool, true, false, if◌then◌else◌, List, [], ◌∷◌, map, length, refl, ap, sym, ◌∙◌, arith}
+use Rattle.std.proofs.Common.{◌≡◌, ◌⊎◌, inl, inr, ℕ, zero, suc, ◌+◌, ◌<◌, ◌≤◌, not, Bool, true, false, List, [], ◌∷◌, map, length, refl, ap, sym, ◌∙◌, arith}
 use Rattle.std.specs.List.{AllByRecursion, list_any}
 use Rattle.std.proofs.lemmas.Bool.{cases_lt}
 use Rattle.std.proofs.lemmas.Option.{slice_get_within}
@@ -12,9 +12,9 @@ use Rattle.switch_net.specs.Clock.{Drive}
 use Rattle.nor_net.specs.Evaluation.{value_at}
 use Rattle.nor_net.specs.Equations.{Solves}
 use Rattle.cell_network.specs.declared.numbering.Counts.{Counts}
-use Rattle.cell_network.specs.declared.part_net.PartNet.TheVariants.{Begins, In, Out, LeftOut, NotBegins, NotOut, NotRight, RightIn, RightOut, Stored}
+use Rattle.cell_network.specs.declared.part_net.PartNet.TheVariants.{Begins, Out, LeftOut, NotBegins, NotOut, NotRight, RightIn, RightOut, Stored}
 use Rattle.cell_network.specs.Cells.{eps_at}
-use Rattle.cell_network.specs.Shapes.{gate, number, begin_inputs, right_inputs, end_inputs}
+use Rattle.cell_network.specs.Shapes.{gate, number, complement_inputs, begin_inputs, right_inputs, end_inputs}
 use Rattle.cell_network.specs.Parts.{counts_of, node_at}
 use Rattle.cell_network.specs.Home.{start_net, end_net, begin_net, whole_nets, in_net, home_numbers}
 use Rattle.cell_network.specs.Whole.{whole_gates, cells_of}
@@ -22,7 +22,7 @@ use Rattle.cell_network.proofs.Named.{NamesSymbols}
 use Rattle.cell_network.proofs.Feeding.{fed_cases, left_before, right_before}
 use Rattle.cell_network.proofs.Nors.{IsNor}
 use Rattle.cell_network.proofs.Wired.{here, start_nor}
-use Rattle.cell_network.proofs.Solved.{kind_nor, nor_value, at_node}
+use Rattle.cell_network.proofs.Solved.{kind_nor, nor_value, vdd_value, at_node}
 
 module _ (tree : TreeTable) (tables : Tables) (t : IsTree tree) (spec : IsSpecification tables) (named : NamesSymbols (length tables.symbols) tree.nodes)
     (before now : Drive) (older old changed new : List Bool) (h : Solves (cells_of tree tables) before older old) (k : Solves (cells_of tree tables) now changed new)
@@ -100,10 +100,19 @@ module _ (tree : TreeTable) (tables : Tables) (t : IsTree tree) (spec : IsSpecif
     pub begins : Kept (begin_net c v + 1)
     pub right : (l r : ℕ) → ((node_at nodes v).kind ≡ Seq l r) ⊎ ((node_at nodes v).kind ≡ Alt l r) → Kept (begin_net c v + 3)
 
-  begin_inputs_kept : (v l r : ℕ) (loops : Bool) → Kept (in_net c nodes v) → EndKept v
-      → AllByRecursion Kept (map (number (home_numbers c v (in_net c nodes v) l r)) (if loops then In ∷ Out ∷ [] else In ∷ []))
-  begin_inputs_kept v l r true inn out = (inn, (out, tt))
-  begin_inputs_kept v l r false inn out = (inn, tt)
+  vdd_kept : Kept 0
+  vdd_kept = vdd_value tree tables t spec named now changed new k ∙ sym (vdd_value tree tables t spec named before older old h)
+
+  complement_kept : (v l r : ℕ) (scan loops : Bool) → Kept (in_net c nodes v) → EndKept v
+      → AllByRecursion Kept (map (number (home_numbers c v (in_net c nodes v) l r)) (complement_inputs scan loops))
+  complement_kept v l r true loops inn out = (vdd_kept, tt)
+  complement_kept v l r false true inn out = (inn, (out, tt))
+  complement_kept v l r false false inn out = (inn, tt)
+
+  begin_inputs_kept : (v l r : ℕ) (scan : Bool) → Kept (begin_net c v)
+      → AllByRecursion Kept (map (number (home_numbers c v (in_net c nodes v) l r)) (begin_inputs scan))
+  begin_inputs_kept v l r true complement = tt
+  begin_inputs_kept v l r false complement = (complement, tt)
 
   right_inputs_kept : (v l r : ℕ) (eps : Bool) → EndKept l → Kept (begin_net c v + 1)
       → AllByRecursion Kept (map (number (home_numbers c v (in_net c nodes v) l r)) (right_inputs eps))
@@ -113,13 +122,13 @@ module _ (tree : TreeTable) (tables : Tables) (t : IsTree tree) (spec : IsSpecif
   begin_kept_at : (v : ℕ) → v < length nodes → Kept (in_net c nodes v) → (kind : NodeKind) → (node_at nodes v).kind ≡ kind → BeginKept v
   begin_kept_at v lt inn (Leaf s) e =
       let complement : Kept (begin_net c v) =
-      kept_nor (begin_net c v) _ (omega arith) (kind_nor tree tables t spec named v (Leaf s) 1 (gate NotBegins (begin_inputs (node_at nodes v))) lt e refl)
-      (begin_inputs_kept v 0 0 (node_at nodes v).loops inn (end_kept v lt)) in
+      kept_nor (begin_net c v) _ (omega arith) (kind_nor tree tables t spec named v (Leaf s) 1 (gate NotBegins (complement_inputs (node_at nodes v).scan (node_at nodes v).loops)) lt e refl)
+      (complement_kept v 0 0 (node_at nodes v).scan (node_at nodes v).loops inn (end_kept v lt)) in
       record {
         complement = complement;
         begins =
-            kept_nor (begin_net c v + 1) (begin_net c v ∷ []) (omega arith) (kind_nor tree tables t spec named v (Leaf s) 2 (gate Begins (NotBegins ∷ [])) lt e refl)
-            (complement, tt);
+            kept_nor (begin_net c v + 1) _ (omega arith) (kind_nor tree tables t spec named v (Leaf s) 2 (gate Begins (begin_inputs (node_at nodes v).scan)) lt e refl)
+            (begin_inputs_kept v 0 0 (node_at nodes v).scan complement);
         right = λ l r kind. elim kind [
           | inl f ↦ let clash : Leaf s ≡ Seq l r = sym e ∙ f in absurd (cc)
           | inr f ↦ let clash : Leaf s ≡ Alt l r = sym e ∙ f in absurd (cc)
@@ -127,10 +136,10 @@ module _ (tree : TreeTable) (tables : Tables) (t : IsTree tree) (spec : IsSpecif
       }
   begin_kept_at v lt inn (Seq l r) e =
       let complement : Kept (begin_net c v) =
-      kept_nor (begin_net c v) _ (omega arith) (kind_nor tree tables t spec named v (Seq l r) 2 (gate NotBegins (begin_inputs (node_at nodes v))) lt e refl)
-      (begin_inputs_kept v l r (node_at nodes v).loops inn (end_kept v lt)) in
+      kept_nor (begin_net c v) _ (omega arith) (kind_nor tree tables t spec named v (Seq l r) 2 (gate NotBegins (complement_inputs (node_at nodes v).scan (node_at nodes v).loops)) lt e refl)
+      (complement_kept v l r (node_at nodes v).scan (node_at nodes v).loops inn (end_kept v lt)) in
       let begins : Kept (begin_net c v + 1) =
-      kept_nor (begin_net c v + 1) (begin_net c v ∷ []) (omega arith) (kind_nor tree tables t spec named v (Seq l r) 3 (gate Begins (NotBegins ∷ [])) lt e refl) (complement, tt) in
+      kept_nor (begin_net c v + 1) _ (omega arith) (kind_nor tree tables t spec named v (Seq l r) 3 (gate Begins (begin_inputs (node_at nodes v).scan)) lt e refl) (begin_inputs_kept v l r (node_at nodes v).scan complement) in
       let left : l < length nodes = (let b = left_before c tree t v l r (node_at nodes v) (here tree tables t spec named v lt) (inl e) in omega (arith, b, lt)) in
       let middle : Kept (begin_net c v + 2) =
       kept_nor (begin_net c v + 2) _ (omega arith) (kind_nor tree tables t spec named v (Seq l r) 4 (gate NotRight (right_inputs (eps_at nodes l))) lt e refl)
@@ -144,10 +153,10 @@ module _ (tree : TreeTable) (tables : Tables) (t : IsTree tree) (spec : IsSpecif
       }
   begin_kept_at v lt inn (Alt l r) e =
       let complement : Kept (begin_net c v) =
-      kept_nor (begin_net c v) _ (omega arith) (kind_nor tree tables t spec named v (Alt l r) 2 (gate NotBegins (begin_inputs (node_at nodes v))) lt e refl)
-      (begin_inputs_kept v l r (node_at nodes v).loops inn (end_kept v lt)) in
+      kept_nor (begin_net c v) _ (omega arith) (kind_nor tree tables t spec named v (Alt l r) 2 (gate NotBegins (complement_inputs (node_at nodes v).scan (node_at nodes v).loops)) lt e refl)
+      (complement_kept v l r (node_at nodes v).scan (node_at nodes v).loops inn (end_kept v lt)) in
       let begins : Kept (begin_net c v + 1) =
-      kept_nor (begin_net c v + 1) (begin_net c v ∷ []) (omega arith) (kind_nor tree tables t spec named v (Alt l r) 3 (gate Begins (NotBegins ∷ [])) lt e refl) (complement, tt) in
+      kept_nor (begin_net c v + 1) _ (omega arith) (kind_nor tree tables t spec named v (Alt l r) 3 (gate Begins (begin_inputs (node_at nodes v).scan)) lt e refl) (begin_inputs_kept v l r (node_at nodes v).scan complement) in
       let middle : Kept (begin_net c v + 2) =
       kept_nor (begin_net c v + 2) ((begin_net c v + 1) ∷ []) (omega arith) (kind_nor tree tables t spec named v (Alt l r) 4 (gate NotRight (Begins ∷ [])) lt e refl) (begins, tt) in
       record {

@@ -1,5 +1,5 @@
 -- Every gate of the whole network stands behind its inputs, on a net that no input pad fixes, and names no input twice.
-use Rattle.std.proofs.Common.{◌≡◌, ◌≢◌, ◌⊎◌, inl, inr, ℕ, ◌+◌, ◌<◌, ◌≤◌, Bool, true, false, if◌then◌else◌, List, [], ◌∷◌, ◌++◌, map, length, All, refl, arith}
+use Rattle.std.proofs.Common.{◌≡◌, ◌≢◌, ◌⊎◌, inl, inr, ℕ, ◌+◌, ◌<◌, ◌≤◌, Bool, true, false, List, [], ◌∷◌, ◌++◌, map, length, All, refl, arith}
 use Rattle.std.specs.List.{AllByRecursion, range_with_len}
 use Rattle.rx_lang.specs.declared.pattern.PatternBit.{PatternBit}
 use Rattle.rx_lang.specs.Specification.{NamedPattern}
@@ -12,9 +12,9 @@ use Rattle.nor_net.specs.Netlist.{NorGate}
 use Rattle.cell_network.specs.declared.numbering.Counts.{Counts}
 use Rattle.cell_network.specs.declared.numbering.Numbering.{Numbering}
 use Rattle.cell_network.specs.declared.part_net.PartNet.{PartNet}
-use Rattle.cell_network.specs.declared.part_net.PartNet.TheVariants.{Symbol, In, Out, NotBegins, Begins, Master, Inverse, Stored, LeftOut, RightOut, NotRight, NotOut}
+use Rattle.cell_network.specs.declared.part_net.PartNet.TheVariants.{Symbol, In, NotBegins, Begins, Master, Inverse, Stored, LeftOut, RightOut, NotRight, NotOut}
 use Rattle.cell_network.specs.Cells.{eps_at}
-use Rattle.cell_network.specs.Shapes.{NamedGate, number, numbered, gate, leaf_gates, pair_gates, right_inputs, end_inputs, kind_gates, mark_of, mark_gate, mark_gates, mismatches, pattern_at, complement_gate, symbol_gate, output_gate, frame_gates}
+use Rattle.cell_network.specs.Shapes.{NamedGate, number, numbered, gate, leaf_gates, pair_gates, complement_inputs, begin_inputs, right_inputs, end_inputs, kind_gates, mark_of, mark_gate, mark_gates, mismatches, pattern_at, complement_gate, symbol_gate, output_gate, frame_gates}
 use Rattle.cell_network.specs.Home.{complement_net, symbol_net, start_net, end_net, begin_net, shared_net, output_net, master_net, whole_nets, home_numbers, home_of_kind, frame_home}
 use Rattle.cell_network.specs.Whole.{load_gate}
 use Rattle.cell_network.proofs.Ranges.{Pairs, each_append, each_range, each_piece, pairs_map}
@@ -90,21 +90,26 @@ module _ (c : Counts) where
     abbrev own : Numbering
     own = home_numbers c v inn l r
 
-    begin_stands : (loops : Bool) → Stands (numbered own (gate NotBegins (if loops then In ∷ Out ∷ [] else In ∷ [])))
-    begin_stands true =
+    complement_stands : (scan loops : Bool) → Stands (numbered own (gate NotBegins (complement_inputs scan loops)))
+    complement_stands true loops = one_input (begin_net c v) 0 (omega arith) (omega arith) (omega arith)
+    complement_stands false true =
         let h = in_before v inn lt place in
         two_inputs (begin_net c v) inn (end_net c v + 1) (omega arith) (omega arith) h.0 (omega arith) h.1
-    begin_stands false =
+    complement_stands false false =
         let h = in_before v inn lt place in
         one_input (begin_net c v) inn (omega arith) (omega arith) h.0
+
+    begin_stands : (scan : Bool) → Stands (numbered own (gate Begins (begin_inputs scan)))
+    begin_stands true = record { low = omega arith; below = omega arith; inputs = tt; distinct = tt }
+    begin_stands false = one_input (begin_net c v + 1) (begin_net c v) (omega arith) (omega arith) (omega arith)
 
     pub leaf_stands : (node : Node) (s : ℕ) → s < c.symbols → AllByRecursion (λ g. Stands (numbered own g)) (leaf_gates node s)
     leaf_stands node s sl = (
       one_input (end_net c v + 1) (end_net c v) (omega arith) (omega arith) (omega arith),
       (
-        begin_stands node.loops,
+        complement_stands node.scan node.loops,
         (
-          one_input (begin_net c v + 1) (begin_net c v) (omega arith) (omega arith) (omega arith),
+          begin_stands node.scan,
           (
             one_input (begin_net c v + 2) (symbol_net c + s) (omega arith) (omega arith) (omega arith),
             (
@@ -136,9 +141,9 @@ module _ (c : Counts) where
       (
         one_input (end_net c v + 1) (end_net c v) (omega arith) (omega arith) (omega arith),
         (
-          begin_stands node.loops,
+          complement_stands node.scan node.loops,
           (
-            one_input (begin_net c v + 1) (begin_net c v) (omega arith) (omega arith) (omega arith),
+            begin_stands node.scan,
             (
               any_inputs own NotRight right (omega arith) (omega arith) rights,
               (one_input (begin_net c v + 3) (begin_net c v + 2) (omega arith) (omega arith) (omega arith), tt),

@@ -6,12 +6,13 @@ use Rattle.std.proofs.lemmas.Bool.{cases_eq, cases_lt}
 use Rattle.star_normal.specs.declared.node.Node.{Node}
 use Rattle.star_normal.specs.declared.node.NodeKind.{NodeKind}
 use Rattle.star_normal.specs.declared.node.NodeKind.TheVariants.{Leaf, Seq, Alt}
-use Rattle.star_normal.specs.Tables.{TreeTable, IsTree, parts, flags_of, form_at, form_by, forms}
-use Rattle.star_normal.specs.Building.{PartsBelow}
-use Rattle.star_normal.specs.Tops.{plain_node}
-use Rattle.star_normal.proofs.Growing.{not_hit}
+use Rattle.star_normal.specs.Tables.{TreeTable, IsTree, parts, flags_of, form_at, form_by, forms, plain_node}
+use Rattle.star_normal.specs.Assembly.{PartsBelow}
 use Rattle.star_normal.proofs.Sized.{ordered, node_form}
 use Rattle.cell_network.proofs.Placed.{Placed, leaf_at, seq_at, alt_at, number, form, Stands, IsPlaced, Has}
+
+not_hit : (f c : ℕ) → (c ≡ f → ⊥) → ◌≡◌ {A = ℕ} (cond (f == c) 1 0) 0
+not_hit f c ne = let test : (f == c) ≡ false = grind (arith, ne) in ap (λ b. cond b 1 0) test
 
 -- the node has this part
 abbrev IsPart : ℕ → NodeKind → Type 0

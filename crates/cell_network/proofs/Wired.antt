@@ -9,8 +9,7 @@ use Rattle.rx_lang.specs.Tables.{Tables, IsSpecification}
 use Rattle.star_normal.specs.declared.node.Node.{Node}
 use Rattle.star_normal.specs.declared.node.NodeKind.{NodeKind}
 use Rattle.star_normal.specs.declared.node.NodeKind.TheVariants.{Leaf, Seq, Alt}
-use Rattle.star_normal.specs.Tables.{TreeTable, IsTree}
-use Rattle.star_normal.specs.Tops.{plain_node}
+use Rattle.star_normal.specs.Tables.{TreeTable, IsTree, plain_node}
 use Rattle.nor_net.specs.Netlist.{NorGate}
 use Rattle.nor_net.specs.Evaluation.{is_output}
 use Rattle.cell_network.specs.declared.numbering.Counts.{Counts}

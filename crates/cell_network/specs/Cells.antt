@@ -10,9 +10,9 @@ pub record CellValues : Type 0 where
   pub inn : ℕ → Bool
   pub out : ℕ → Bool
 
--- IN': the node begins, or a further turn of it does; from its IN and OUT
+-- IN': the node begins, or a further turn of it does; from its IN and OUT. A scan node begins at all times.
 abbrev pub begins : Node → Bool → Bool → Bool
-begins node inn out = inn || (node.loops && out)
+begins node inn out = node.scan || (inn || (node.loops && out))
 
 -- the same of the node with this number
 abbrev pub begins_at : CellValues → ℕ → Node → Bool

@@ -20,7 +20,7 @@ pulled k node y vs = map (λ v. pulls node y (v.inn k) (v.out k)) vs
 
 -- a !z
 abbrev pub marked_node : Node
-marked_node = record { kind = Leaf 0; loops = false; eps = false; marks = 1; eps_marks = 0 }
+marked_node = record { kind = Leaf 0; loops = false; eps = false; scan = false; marks = 1; eps_marks = 0 }
 
 abbrev pub marked_table : TreeTable
 marked_table = record { nodes = marked_node ∷ []; root = 0 }
@@ -35,7 +35,7 @@ marked_run = cells (true ∷ []) (false ∷ [])
 
 -- (a? !z)*
 abbrev pub looped_node : Node
-looped_node = record { kind = Leaf 0; loops = true; eps = true; marks = 1; eps_marks = 1 }
+looped_node = record { kind = Leaf 0; loops = true; eps = true; scan = false; marks = 1; eps_marks = 1 }
 
 abbrev pub looped_table : TreeTable
 looped_table = record { nodes = looped_node ∷ []; root = 0 }
@@ -46,13 +46,13 @@ looped_run = cells (true ∷ []) (false ∷ []) ∷ cells (false ∷ []) (true �
 
 -- (a? !y) b !z
 abbrev pub first_node : Node
-first_node = record { kind = Leaf 0; loops = false; eps = true; marks = 1; eps_marks = 1 }
+first_node = record { kind = Leaf 0; loops = false; eps = true; scan = false; marks = 1; eps_marks = 1 }
 
 abbrev pub second_node : Node
-second_node = record { kind = Leaf 1; loops = false; eps = false; marks = 2; eps_marks = 0 }
+second_node = record { kind = Leaf 1; loops = false; eps = false; scan = false; marks = 2; eps_marks = 0 }
 
 abbrev pub sequence_node : Node
-sequence_node = record { kind = Seq 0 1; loops = false; eps = false; marks = 0; eps_marks = 0 }
+sequence_node = record { kind = Seq 0 1; loops = false; eps = false; scan = false; marks = 0; eps_marks = 0 }
 
 abbrev pub sequence_table : TreeTable
 sequence_table = record { nodes = first_node ∷ second_node ∷ sequence_node ∷ []; root = 2 }

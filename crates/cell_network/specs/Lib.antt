@@ -1,3 +1,4 @@
+-- Definitions that public contracts cite:
 pub mod Cells
 pub mod Laws
 pub mod Shapes

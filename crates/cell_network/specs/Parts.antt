@@ -5,8 +5,7 @@ use Rattle.rx_lang.specs.Tables.{Tables}
 use Rattle.star_normal.specs.declared.node.Node.{Node}
 use Rattle.star_normal.specs.declared.node.NodeKind.{NodeKind}
 use Rattle.star_normal.specs.declared.node.NodeKind.TheVariants.{Leaf, Seq, Alt}
-use Rattle.star_normal.specs.Tables.{TreeTable}
-use Rattle.star_normal.specs.Tops.{plain_node}
+use Rattle.star_normal.specs.Tables.{TreeTable, plain_node}
 use Rattle.nor_net.specs.Part.{PartTables}
 use Rattle.nor_net.specs.declared.gate.Transfer.{Transfer}
 use Rattle.nor_net.specs.declared.part.PartPort.{PartPort}
@@ -49,6 +48,7 @@ wire_numbers c = record {
   inn = inn_wire c;
   out = inn_wire c + 1;
   reset = inn_wire c + 2;
+  vdd = inn_wire c + 5;
   not_begins = 0;
   begins = 0;
   not_symbol = 0;

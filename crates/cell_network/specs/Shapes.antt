@@ -14,7 +14,7 @@ use Rattle.star_normal.specs.Tables.{flags_of}
 use Rattle.nor_net.specs.Netlist.{NorGate}
 use Rattle.nor_net.specs.declared.gate.Transfer.{Transfer}
 use Rattle.cell_network.specs.declared.part_net.PartNet.{PartNet}
-use Rattle.cell_network.specs.declared.part_net.PartNet.TheVariants.{Symbol, Shared, In, Out, Reset, NotBegins, Begins, NotSymbol, Data, Master, Inverse, Stored, LeftOut, RightIn, RightOut, NotRight, NotOut, Line, Complement, Output}
+use Rattle.cell_network.specs.declared.part_net.PartNet.TheVariants.{Symbol, Shared, In, Out, Reset, Vdd, NotBegins, Begins, NotSymbol, Data, Master, Inverse, Stored, LeftOut, RightIn, RightOut, NotRight, NotOut, Line, Complement, Output}
 use Rattle.cell_network.specs.declared.numbering.Numbering.{Numbering}
 use Rattle.cell_network.specs.Cells.{eps_at}
 
@@ -28,16 +28,24 @@ gate out inputs = record { out = out; inputs = inputs }
 
 -- ---- nodes
 
--- what makes the node begin: its IN, and its OUT where it loops
-abbrev pub begin_inputs : Node → List PartNet
-begin_inputs node = if node.loops then In ∷ Out ∷ [] else In ∷ []
+-- what makes the node begin, so that the complement of IN' is low: its IN, and its OUT where it loops. At a scan node it is low
+-- at all times.
+abbrev pub complement_inputs : Bool → Bool → List PartNet
+complement_inputs true loops = Vdd ∷ []
+complement_inputs false true = In ∷ Out ∷ []
+complement_inputs false false = In ∷ []
+
+-- IN' is the inverse of its complement, and a NOR of no nets at a scan node.
+abbrev pub begin_inputs : Bool → List PartNet
+begin_inputs true = []
+begin_inputs false = NotBegins ∷ []
 
 -- A leaf: OUT is its register, which stores where the node begins with the symbol and without reset.
 abbrev pub leaf_gates : Node → ℕ → List NamedGate
 leaf_gates node s =
     gate Out (Stored ∷ [])
-    ∷ gate NotBegins (begin_inputs node)
-    ∷ gate Begins (NotBegins ∷ [])
+    ∷ gate NotBegins (complement_inputs node.scan node.loops)
+    ∷ gate Begins (begin_inputs node.scan)
     ∷ gate NotSymbol (Symbol s ∷ [])
     ∷ gate Data (NotBegins ∷ NotSymbol ∷ Reset ∷ [])
     ∷ gate Inverse (Master ∷ [])
@@ -48,8 +56,8 @@ abbrev pub pair_gates : Node → List PartNet → List PartNet → List NamedGat
 pair_gates node right ends =
     gate NotOut ends
     ∷ gate Out (NotOut ∷ [])
-    ∷ gate NotBegins (begin_inputs node)
-    ∷ gate Begins (NotBegins ∷ [])
+    ∷ gate NotBegins (complement_inputs node.scan node.loops)
+    ∷ gate Begins (begin_inputs node.scan)
     ∷ gate NotRight right
     ∷ gate RightIn (NotRight ∷ [])
     ∷ []
@@ -126,6 +134,7 @@ number n (Shared y) = n.shared + y
 number n In = n.inn
 number n Out = n.out
 number n Reset = n.reset
+number n Vdd = n.vdd
 number n NotBegins = n.not_begins
 number n Begins = n.begins
 number n NotSymbol = n.not_symbol

@@ -1,13 +1,14 @@
 //! The cells of a normal form: one for each node, with a register at each leaf.
 #![tactic(auto)]
 
-pub mod home;
+mod home;
 pub mod laws;
-pub mod numbering;
-pub mod part;
-pub mod part_net;
-pub mod shapes;
-pub mod whole;
+mod numbering;
+mod part;
+mod part_net;
+mod shapes;
+mod whole;
 
 pub use part::node_part;
+pub use rx_text::NoMemory;
 pub use whole::cells;

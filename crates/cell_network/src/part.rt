@@ -68,6 +68,7 @@ impl Counts {
             inn,
             out: inn + 1,
             reset: inn + 2,
+            vdd: inn + 5,
             ..Numbering::default()
         }
     }

@@ -1,6 +1,6 @@
 // The nets of a part by name.
 
-/// A net of a part by what it carries. The first five are wires that the part shares with its neighbours; the others are
+/// A net of a part by what it carries. The first six are wires that the part shares with its neighbours; the others are
 /// the part's own.
 #[derive(Clone, Copy, Debug, PartialEq, Eq)]
 pub enum PartNet {
@@ -14,6 +14,8 @@ pub enum PartNet {
     Out,
     /// The reset.
     Reset,
+    /// The high supply.
+    Vdd,
     /// The complement of `Begins`.
     NotBegins,
     /// High where the node begins, or a further turn of it does. It is IN of the left part.

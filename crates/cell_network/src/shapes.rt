@@ -4,7 +4,7 @@ ghost use Rattle.std.specs.Prelude.{◌≡◌, ◌≤◌, ◌<◌, ◌==◌, ◌
 ghost use Rattle.std.specs.Int.{bit_at};
 ghost use Rattle.std.specs.List.{range_with_len};
 ghost use Rattle.cell_network.specs.Cells.{eps_at};
-ghost use Rattle.cell_network.specs.Shapes.{gate, numbered, AreSmall, begin_inputs, leaf_gates, pair_gates, right_inputs, end_inputs, kind_gates, mark_gate, mark_gates, mismatch, mismatches, complement_gate, symbol_gate, output_gate, frame_gates, register, kind_transfers};
+ghost use Rattle.cell_network.specs.Shapes.{gate, numbered, AreSmall, begin_inputs, complement_inputs, leaf_gates, pair_gates, right_inputs, end_inputs, kind_gates, mark_gate, mark_gates, mismatch, mismatches, complement_gate, symbol_gate, output_gate, frame_gates, register, kind_transfers};
 
 use crate::numbering::Numbering;
 use crate::part_net::PartNet;
@@ -90,15 +90,22 @@ fn end_inputs(right_eps: bool) -> &'static [PartNet]
     }
 }
 
-/// The nets by which a node begins, from whether it loops.
-fn begin_inputs(node: Node) -> &'static [PartNet]
-    ensures { result.now ≡ begin_inputs node }
+/// The nets by which a node begins. A scan node begins at all times.
+fn complement_inputs(scan: bool, loops: bool) -> &'static [PartNet]
+    ensures { result.now ≡ complement_inputs scan loops }
 {
-    if node.loops {
-        &[PartNet::In, PartNet::Out]
-    } else {
-        &[PartNet::In]
+    match (scan, loops) {
+        (true, _) => &[PartNet::Vdd],
+        (false, true) => &[PartNet::In, PartNet::Out],
+        (false, false) => &[PartNet::In],
     }
+}
+
+/// The inputs of the gate of IN'.
+fn begin_inputs(scan: bool) -> &'static [PartNet]
+    ensures { result.now ≡ begin_inputs scan }
+{
+    if scan { &[] } else { &[PartNet::NotBegins] }
 }
 
 /// Adds the gates of a leaf.
@@ -116,8 +123,9 @@ fn add_leaf_gates(
         Begins, Data, Inverse, Master, NotBegins, NotSymbol, Out, Reset, Stored, Symbol,
     };
     add_gate(alloc, gates, numbers, Out, &[Stored])?;
-    add_gate(alloc, gates, numbers, NotBegins, begin_inputs(node))?;
-    add_gate(alloc, gates, numbers, Begins, &[NotBegins])?;
+    let starts = complement_inputs(node.scan, node.loops);
+    add_gate(alloc, gates, numbers, NotBegins, starts)?;
+    add_gate(alloc, gates, numbers, Begins, begin_inputs(node.scan))?;
     add_gate(alloc, gates, numbers, NotSymbol, &[Symbol(symbol)])?;
     add_gate(alloc, gates, numbers, Data, &[NotBegins, NotSymbol, Reset])?;
     add_gate(alloc, gates, numbers, Inverse, &[Master])?;
@@ -140,8 +148,9 @@ fn add_pair_gates(
     use PartNet::{Begins, NotBegins, NotOut, NotRight, Out, RightIn};
     add_gate(alloc, gates, numbers, NotOut, ends)?;
     add_gate(alloc, gates, numbers, Out, &[NotOut])?;
-    add_gate(alloc, gates, numbers, NotBegins, begin_inputs(node))?;
-    add_gate(alloc, gates, numbers, Begins, &[NotBegins])?;
+    let starts = complement_inputs(node.scan, node.loops);
+    add_gate(alloc, gates, numbers, NotBegins, starts)?;
+    add_gate(alloc, gates, numbers, Begins, begin_inputs(node.scan))?;
     add_gate(alloc, gates, numbers, NotRight, right)?;
     add_gate(alloc, gates, numbers, RightIn, &[NotRight])?;
     Ok(())

@@ -1,13 +1,13 @@
 // The whole network of cells.
 
-ghost use Rattle.std.specs.Prelude.{◌≡◌, ◌≤◌, ◌<◌, ◌+◌, ◌^◌, ◌++◌, true, false, length, map, All, IfOk, OnOk};
+ghost use Rattle.std.specs.Prelude.{◌≡◌, ◌↔◌, ℕ, List, ◌≤◌, ◌<◌, ◌+◌, ◌^◌, ◌++◌, true, false, length, map, All, IfOk, OnOk};
 ghost use Rattle.std.specs.List.{range_with_len};
 ghost use Rattle.rx_text.specs.Role.{bears_name};
+ghost use Rattle.rx_lang.specs.Vector.{Bits};
 ghost use Rattle.rx_lang.specs.Specification.{MatchesSymbol, Language};
 ghost use Rattle.rx_lang.specs.Tables.{specification};
-ghost use Rattle.star_normal.specs.Laws.{HasLanguages};
 ghost use Rattle.star_normal.specs.Tables.{parts, whole};
-ghost use Rattle.star_normal.specs.Trees.{leaves};
+ghost use Rattle.star_normal.specs.Trees.{leaves, WholeMarks};
 ghost use Rattle.switch_net.specs.Recognition.{pad_names};
 ghost use Rattle.nor_net.specs.Clearing.{ClearsByReset};
 ghost use Rattle.nor_net.specs.Recognised.{ShowsByClocks};
@@ -28,8 +28,8 @@ use star_normal::{Node, Tree};
 use std::alloc::Global;
 use switch_net::{Net, Pad};
 
-/// The network of the tree's cells: the union of the parts of all nodes and of the frame. Where the tree has the languages of
-/// the specification, its outputs show them clock by clock. The reset clears its registers. It takes time and memory in
+/// The network of the tree's cells: the union of the parts of all nodes and of the frame. Clock by clock its outputs show what
+/// the tree marks, and so the languages of the specification where the tree marks the same. The reset clears its registers. It takes time and memory in
 /// proportion to the nodes and their marks.
 ///
 /// # Errors
@@ -38,7 +38,9 @@ use switch_net::{Net, Pad};
 pub fn cells(alloc: Global, tree: &Tree, spec: &Spec) -> Result<NorNet, NoMemory>
     requires symbols { All (λ s. s < length spec.now.symbols) (leaves (whole tree.now)) }
     ensures cells { IfOk result (λ net. net ≡ cells_of tree.now spec.now) }
-    ensures shows { IfOk result (λ net. HasLanguages (MatchesSymbol spec.now.symbols) (specification spec.now).statements (whole tree.now)
+    ensures marks { IfOk result (λ net. ShowsByClocks net (length spec.now.lines) (WholeMarks (MatchesSymbol spec.now.symbols) (whole tree.now))) }
+    ensures shows { IfOk result (λ net.
+        ((y : ℕ) (u : List Bits) → WholeMarks (MatchesSymbol spec.now.symbols) (whole tree.now) y u ↔ Language (specification spec.now) y u)
         → ShowsByClocks net (length spec.now.lines) (Language (specification spec.now))) }
     ensures pads { IfOk result (λ net. map (λ pad. pad.name) net.pads ≡ pad_names spec.now.lines spec.now.outputs) }
     ensures few { IfOk result (λ net. net.nets ≤ 16777216) }

@@ -1,3 +1,4 @@
+-- Definitions that public contracts cite:
 pub mod Netlist
 pub mod Evaluation
 pub mod SwitchForm

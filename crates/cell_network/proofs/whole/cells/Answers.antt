@@ -1,7 +1,8 @@
-use Rattle.std.proofs.Common.{◌≡◌, length, refl, sym, subst, ◌∙◌}
+use Rattle.std.proofs.Common.{◌≡◌, ◌↔◌, ℕ, List, length, refl, sym, subst, ◌∙◌}
 use Rattle.rx_lang.specs.Specification.{MatchesSymbol, Language}
 use Rattle.rx_lang.specs.Tables.{specification}
-use Rattle.star_normal.specs.Laws.{HasLanguages}
+use Rattle.rx_lang.specs.Vector.{Bits}
+use Rattle.star_normal.specs.Trees.{WholeMarks}
 use Rattle.star_normal.specs.Tables.{whole}
 use Rattle.nor_net.specs.Netlist.{Netlist}
 use Rattle.nor_net.specs.Clearing.{ClearsByReset}
@@ -14,7 +15,7 @@ use Rattle.cell_network.proofs.Named.{NamesSymbols}
 use Rattle.cell_network.proofs.Netlists.{is_netlist}
 use Rattle.cell_network.proofs.PadNames.{names_of_pads, few_nets}
 use Rattle.cell_network.proofs.Clears.{clears}
-use Rattle.cell_network.proofs.Shown.{shows}
+use Rattle.cell_network.proofs.Shown.{shows, shows_marks}
 use Rattle.cell_network.proofs.whole.cells.Goals as goal
 
 pub new-requires : goal.new-requires
@@ -54,11 +55,17 @@ pub returns-clause-clears : goal.returns-clause-clears
 returns-clause-clears c =
     subst ClearsByReset (sym (made c)) (clears c.args.tree.now c.args.spec.now c.of-counts.ensures.tree c.of-counts.ensures.specification (named c))
 
+pub returns-clause-marks : goal.returns-clause-marks
+returns-clause-marks c =
+    subst (λ (net : Netlist). ShowsByClocks net (length c.args.spec.now.lines) (WholeMarks (MatchesSymbol c.args.spec.now.symbols) (whole c.args.tree.now)))
+    (sym (made c))
+    (shows_marks c.clocks_solve_the_equations.ensures c.args.tree.now c.args.spec.now c.of-counts.ensures.tree c.of-counts.ensures.specification (named c))
+
 pub returns-clause-shows : goal.returns-clause-shows
 returns-clause-shows c =
     subst
     (λ (net : Netlist).
-    HasLanguages (MatchesSymbol c.args.spec.now.symbols) (specification c.args.spec.now).statements (whole c.args.tree.now)
+    ((y : ℕ) (u : List Bits) → WholeMarks (MatchesSymbol c.args.spec.now.symbols) (whole c.args.tree.now) y u ↔ Language (specification c.args.spec.now) y u)
     → ShowsByClocks net (length c.args.spec.now.lines) (Language (specification c.args.spec.now)))
     (sym (made c))
     (shows c.clocks_solve_the_equations.ensures c.args.tree.now c.args.spec.now c.of-counts.ensures.tree c.of-counts.ensures.specification (named c))
