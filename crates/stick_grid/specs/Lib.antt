@@ -2,6 +2,7 @@
 pub mod Tilings
 pub mod Joins
 pub mod Plans
+pub mod PlanBoxes
 pub mod Pieces
 pub mod Transistors
 pub mod Names
@@ -10,6 +11,5 @@ pub mod Windows
 pub mod Depicted
 pub mod Modules
 -- Definitions that serve private contracts alone:
-pub mod Drawings
 pub mod PieceGraph
 pub mod NetMaps

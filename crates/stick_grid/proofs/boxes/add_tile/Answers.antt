@@ -1,22 +1,23 @@
 -- The boxes are added one by one.
-use Rattle.std.proofs.Common.{◌≡◌, ◌≤◌, length, take, subst}
+use Rattle.std.proofs.Common.{◌≤◌, ◌++◌, [], ◌∷◌, length, map, take, ap, ◌∙◌}
 use Rattle.std.proofs.lemmas.List.{take_all}
+use Rattle.geom.specs.Squares.{BoxShape}
 use Rattle.micro_tiles.specs.Table.{boxes}
-use Rattle.stick_grid.specs.Drawings.{Adds}
-use Rattle.stick_grid.proofs.Moves.{adds_none, adds_more, one_more}
+use Rattle.stick_grid.specs.PlanBoxes.{tile_box}
+use Rattle.stick_grid.proofs.Moves.{map_next}
 use Rattle.stick_grid.proofs.boxes.add_tile.Goals as goal
-
-pub loop-index-init : goal.loop-index-init
-loop-index-init c = adds_none c.args.drawn.now.items c.args.east c.args.north
 
 pub loop-index-preserved : goal.loop-index-preserved
 loop-index-preserved c =
-    rw (c.in_ok-push.ensures.items, one_more (boxes c.args.tile) c.loop-index.index c.box_at.result c.box_at.ensures.drawn)
-    (adds_more c.args.drawn.now.items (take c.loop-index.index (boxes c.args.tile)) c.loop-index.drawn.items c.box_at.result c.moved.result c.args.east c.args.north
-    c.loop-index.invariant c.moved.ensures.layer c.moved.ensures.squares)
+    let place = tile_box c.args.east c.args.north in
+    let bs = boxes c.args.tile in
+    let i = c.loop-index.index in
+    let old = c.args.drawn.now.items in
+    c.in_ok-push.ensures.items ∙ ap (λ l. l ++ c.moved.result ∷ []) c.loop-index.invariant
+    ∙ ap (λ (b : BoxShape). (old ++ map place (take i bs)) ++ b ∷ []) c.moved.ensures
+    ∙ map_next place old bs i c.box_at.result c.box_at.ensures.drawn
 
 pub returns : goal.returns
 returns c =
     let past : length (boxes c.args.tile) ≤ c.loop-index.index = rw (← c.box_count-index-end.ensures) c.loop-index-test.false in
-    let all : take c.loop-index.index (boxes c.args.tile) ≡ boxes c.args.tile = take_all c.loop-index.index (boxes c.args.tile) past in
-    subst (λ bs. Adds c.args.drawn.now.items bs c.args.east c.args.north c.loop-index.drawn.items) all c.loop-index.invariant
+    c.loop-index.invariant ∙ ap (λ bs. c.args.drawn.now.items ++ map (tile_box c.args.east c.args.north) bs) (take_all c.loop-index.index (boxes c.args.tile) past)

@@ -1,23 +1,20 @@
--- The boxes of each tile are added in turn.
-use Rattle.std.proofs.Common.{◌≡◌, ◌*◌, ◌<◌, ◌+◌, ◌-◌, arith}
-use Rattle.micro_tiles.specs.Table.{boxes}
-use Rattle.stick_grid.specs.Tilings.{tile_at}
-use Rattle.stick_grid.specs.Drawings.{Adds}
-use Rattle.stick_grid.proofs.Moves.{draws_none, draws_more, draws_all}
+-- The boxes of each row are added in turn.
+use Rattle.std.proofs.Common.{◌≡◌, ◌↔◌, ℕ, ◌++◌, [], ap, ◌∙◌, subst, sym, arith}
+use Rattle.std.specs.List.{range_with_len, flat_map}
+use Rattle.geom.specs.Squares.{Covered}
+use Rattle.stick_grid.specs.Plans.{Covers, plan_of}
+use Rattle.stick_grid.specs.PlanBoxes.{boxes_in_row, boxes_of_plan}
+use Rattle.stick_grid.proofs.Moves.{flat_next, drawn_covers}
 use Rattle.stick_grid.proofs.grid.Grid.boxes.Goals as goal
 
-pub loop-before-init : goal.loop-before-init
-loop-before-init c = rw c.new-drawn.ensures.items (draws_none c.args.self.now)
+pub loop-row-preserved : goal.loop-row-preserved
+loop-row-preserved c =
+    let f = boxes_in_row (plan_of c.args.self.now) in
+    c.in_ok-add_row.ensures ∙ ap (λ l. l ++ f c.loop-row.row) c.loop-row.invariant ∙ flat_next f [] c.loop-row.row
 
-pub loop-before-preserved : goal.loop-before-preserved
-loop-before-preserved c =
-    let tiling = c.args.self.now in
-    let row = c.place_of-at.result.row in
-    let col = c.place_of-at.result.col in
-    let number : row * tiling.cols + col ≡ c.loop-before.before = rw (← c.cols-cols.ensures.number) c.place_of-at.ensures.number in
-    let is_col : col < tiling.cols = rw (← c.cols-cols.ensures.number) c.place_of-at.ensures.is_col in
-    let adds : Adds c.loop-before.drawn.items (boxes (tile_at tiling row col)) col (tiling.rows - 1 - row) c.add_tile.new.drawn.items = rw (← c.tile_at.ensures, ← c.rows-rows.ensures.number) c.in_ok-add_tile.ensures in
-    draws_more tiling c.loop-before.before row col c.loop-before.drawn.items c.add_tile.new.drawn.items number is_col adds c.loop-before.invariant
-
-pub returns : goal.returns
-returns c = draws_all c.args.self.now c.loop-before.before c.loop-before.drawn.items (let n = c.size-before-end.ensures.number in omega arith) c.loop-before.invariant
+pub returns-clause-squares : goal.returns-clause-squares
+returns-clause-squares c =
+    let plan = plan_of c.args.self.now in
+    let all : c.loop-row.row ≡ plan.rows = (let n = c.rows-row-end.ensures.number in omega arith) in
+    let is : c.loop-row.drawn.items ≡ boxes_of_plan plan = c.loop-row.invariant ∙ ap (λ (n : ℕ). flat_map (boxes_in_row plan) (range_with_len 0 n)) all in
+    λ layer x y. subst (λ bs. Covered bs layer x y ↔ Covers plan layer x y) (sym is) (drawn_covers plan layer x y)
