@@ -1,5 +1,5 @@
 -- The text of a chip draws it.
-use Rattle.std.proofs.Common.{◌≡◌, ◌⊎◌, inl, inr, ℕ, zero, suc, ◌+◌, ◌<◌, ◌≤◌, ◌^◌, ◌==◌, ℤ, pos, ◌+ℤ◌, ◌*ℤ◌, ◌≤ℤ◌, ◌<ℤ◌, List, [], ◌∷◌, ◌++◌, map, flat_map, length, Option, Some, None, slice_get, find, codes, refl, sym, ap, ◌∙◌, subst, append_assoc, append-nil, arith}
+use Rattle.std.proofs.Common.{◌≡◌, ◌⊎◌, inl, inr, ℕ, zero, suc, ◌+◌, ◌<◌, ◌^◌, ℤ, pos, ◌*ℤ◌, List, [], ◌∷◌, ◌++◌, map, flat_map, length, Some, slice_get, codes, refl, sym, ◌∙◌, subst, append_assoc, arith}
 use Rattle.std.specs.Fmt.{decimal, signed_decimal}
 use Rattle.std.proofs.lemmas.Int.{ints}
 use Rattle.geom.specs.declared.chip.Call.{Call}
@@ -7,12 +7,12 @@ use Rattle.geom.specs.declared.chip.Label.{Label}
 use Rattle.geom.specs.Squares.{BoxShape, IsBox}
 use Rattle.geom.specs.Rows.{Among}
 use Rattle.geom.specs.Chips.{ChipShape}
-use Rattle.geom.specs.CifDrawings.{CifSymbol, CifDrawing, CifState, blank_state}
-use Rattle.geom.specs.CifRefusals.{DrawsCif, stroke_boxes}
+use Rattle.geom.specs.CifDrawings.{CifSymbol, CifDrawing}
+use Rattle.geom.specs.CifRefusals.{DrawsCif}
 use Rattle.cif_write.specs.ChipText.{kinds_lines, call_line, label_line, chip_text}
 use Rattle.cif_write.specs.WrittenChips.{IsWritableEdge, IsWritableBox, IsWritableCall, IsWritableLabel, IsWritable, shifted, kind_at, chip_boxes}
-use Rattle.cif_write.proofs.CifSteps.{Goes, GoesBehind, step, step_end}
-use Rattle.cif_write.proofs.CifKinds.{outside, kind_symbol}
+use Rattle.cif_write.proofs.CifSteps.{GoesBehind, step, step_end}
+use Rattle.cif_write.proofs.CifKinds.{outside}
 use Rattle.cif_write.proofs.CifBoxes.{AreWritable}
 use Rattle.cif_write.proofs.CifCalls.{symbols_behind, kinds_go, kind_found, call_read, called_drawing}
 use Rattle.cif_write.proofs.CifLabelLines.{label_goes}
@@ -55,15 +55,18 @@ module _ (kinds : List (List BoxShape)) (few : length kinds < 2 ^ 32) (good : (b
       let found = rw number at (kind_found 0 call.kind kinds [] here.boxes here.kind) in
       let reads = call_read (symbols_behind 0 kinds []) drawing call here.boxes found (omega (arith, within, few)) here.x here.y (good here.boxes among) in
       let lines : call_line call ++ (flat_map call_line cs ++ more)
-      ≡ (codes "C " ++ (decimal (call.kind + 1) ++ (codes " " ++ (codes "T " ++ (signed_decimal (pos 200 *ℤ call.x) ++ (codes " " ++ (signed_decimal (pos 200 *ℤ call.y) ++ [])))))))
+      ≡ (codes "C " ++ (decimal (call.kind + 1) ++ (codes " " ++ (codes "T " ++ (signed_decimal (pos 200 *ℤ call.x) ++ (codes " " ++ (signed_decimal
+      (pos 200 *ℤ call.y) ++ [])))))))
       ++ (59 ∷ 10 ∷ (flat_map call_line cs ++ more)) =
-      line_written (codes "C ") (decimal (call.kind + 1)) (codes " ") (codes "T ") (signed_decimal (pos 200 *ℤ call.x)) (signed_decimal (pos 200 *ℤ call.y)) (codes ";\n")
+      line_written (codes "C ") (decimal (call.kind + 1)) (codes " ") (codes "T ") (signed_decimal (pos 200 *ℤ call.x)) (signed_decimal
+      (pos 200 *ℤ call.y)) (codes ";\n")
       (flat_map call_line cs ++ more)
       ∙ sym (line_nested (codes "C ") (decimal (call.kind + 1)) (codes " ") (codes "T ") (signed_decimal (pos 200 *ℤ call.x)) (signed_decimal (pos 200 *ℤ call.y)) []
       (59 ∷ 10 ∷ (flat_map call_line cs ++ more))) in
       rw (append_assoc (call_line call) (flat_map call_line cs) more, lines, here.kind)
       (step (flat_map call_line cs ++ more) (flat_map (λ c. kind_at c (slice_get kinds c.kind)) cs) ls reads
-      (λ place. calls_go (called_drawing (symbols_behind 0 kinds []) drawing call here.boxes found (omega (arith, within, few)) here.x here.y (good here.boxes among) place) cs more ls (λ c in_cs. writable c (inr in_cs)) behind))
+      (λ place. calls_go (called_drawing (symbols_behind 0 kinds []) drawing call here.boxes found (omega (arith, within, few)) here.x here.y
+      (good here.boxes among) place) cs more ls (λ c in_cs. writable c (inr in_cs)) behind))
 
 -- ---- boxes within reach
 
@@ -86,7 +89,8 @@ shifted_box dx dy b near_x near_y good = record {
   };
 }
 
-shifted_boxes : (dx dy : ℤ) (boxes : List BoxShape) → IsWritableEdge dx → IsWritableEdge dy → AreWritable boxes → (b : BoxShape) → Among (map (shifted dx dy) boxes) b → IsBox b
+shifted_boxes : (dx dy : ℤ) (boxes : List BoxShape) → IsWritableEdge dx → IsWritableEdge dy → AreWritable boxes → (b : BoxShape)
+    → Among (map (shifted dx dy) boxes) b → IsBox b
 shifted_boxes dx dy [] near_x near_y good b among = absurd among
 shifted_boxes dx dy (c ∷ boxes) near_x near_y good b (inl here) = subst IsBox here (shifted_box dx dy c near_x near_y (good c (inl refl)))
 shifted_boxes dx dy (c ∷ boxes) near_x near_y good b (inr later) = shifted_boxes dx dy boxes near_x near_y (λ d among. good d (inr among)) b later

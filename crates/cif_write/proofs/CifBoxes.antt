@@ -1,29 +1,27 @@
 -- The lines of boxes, and whole definitions, as they are read.
-use Rattle.std.proofs.Common.{◌≡◌, ◌≢◌, inl, inr, ℕ, zero, suc, ◌+◌, ◌*◌, ◌<◌, ◌≤◌, ◌^◌, Bool, true, false, ◌==◌, cond, ℤ, pos, negsuc, neg_ℤ, ◌+ℤ◌, ◌-ℤ◌, ◌*ℤ◌, ◌≤ℤ◌, ◌<ℤ◌, List, [], ◌∷◌, ◌++◌, length, Option, Some, None, slice_get, find, codes, refl, sym, ap, ◌∙◌, subst, append_assoc, append-nil, arith}
+use Rattle.std.proofs.Common.{◌≡◌, inl, inr, ℕ, ◌+◌, ◌*◌, ◌<◌, ◌≤◌, ◌^◌, Bool, true, false, ◌==◌, ℤ, pos, negsuc, ◌+ℤ◌, ◌-ℤ◌, ◌*ℤ◌, List, [], ◌∷◌, ◌++◌, Option, Some, None, codes, refl, sym, ap, ◌∙◌, append_assoc, append-nil, arith}
 use Rattle.std.specs.Prelude.{unsigned_abs}
 use Rattle.std.specs.List.{list_any}
 use Rattle.std.specs.Fmt.{decimal, signed_decimal}
 use Rattle.std.proofs.lemmas.Int.{ints}
-use Rattle.std.proofs.lemmas.Bool.{cases_Bool, eqb-true, ne_eqb}
-use Rattle.rx_text.specs.declared.place.Place.{Place}
+use Rattle.std.proofs.lemmas.Bool.{eqb-true}
 use Rattle.geom.specs.declared.layer.Layer.{Layer}
 use Rattle.geom.specs.declared.layer.Layer.TheVariants.{Diffusion, Poly, Metal, Cut, Implant}
 use Rattle.geom.specs.declared.chip.Label.{Label}
-use Rattle.geom.specs.declared.point.Point.{Point}
 use Rattle.geom.specs.declared.cif_code.CifCode.{CifCode}
-use Rattle.geom.specs.declared.cif_code.CifCode.TheVariants.{C1, C2, C3, C4, C5, C6, C7, C8, C9, C10, C11, C12, C13, C14, C15}
-use Rattle.geom.specs.Squares.{BoxShape, IsBox}
+use Rattle.geom.specs.declared.cif_code.CifCode.TheVariants.{C3, C7, C8, C9}
+use Rattle.geom.specs.Squares.{BoxShape}
 use Rattle.geom.specs.Rows.{Among}
 use Rattle.geom.specs.Merged.{rank}
-use Rattle.geom.specs.CifCommands.{CifScale, CifCommand, DrawsBox, CifPart, Letters, Unsigned, Signed}
+use Rattle.geom.specs.CifCommands.{CifCommand, DrawsBox, Letters, Unsigned, Signed}
 use Rattle.geom.specs.CifLabels.{layer_word}
-use Rattle.geom.specs.CifDrawings.{CifSymbol, CifDrawing, CifState, scaled}
+use Rattle.geom.specs.CifDrawings.{CifSymbol, CifDrawing, scaled}
 use Rattle.geom.specs.CifCodes.{MeetsCode, IsTooGreat, IsOffGrid, IsFarOff}
 use Rattle.geom.specs.CifRefusals.{stroke_boxes}
-use Rattle.cif_write.specs.ChipText.{box_line, layer_line, is_same_layer, box_lines, kind_lines, kinds_lines}
+use Rattle.cif_write.specs.ChipText.{box_line, layer_line, is_same_layer, box_lines, kind_lines}
 use Rattle.cif_write.specs.WrittenChips.{IsWritableEdge, IsWritableBox}
 use Rattle.cif_write.proofs.CifNumbers.{number_writes, signed_writes, IsWithin40, IsLength, length_of}
-use Rattle.cif_write.proofs.CifSteps.{NoneIs, none_is, not_great, ReadsCommand, GoesBehind, step}
+use Rattle.cif_write.proofs.CifSteps.{none_is, not_great, ReadsCommand, GoesBehind, step}
 use Rattle.cif_write.proofs.CifKinds.{outside, within, kind_symbol, hundred, part_then, within_numbers, opening_text, opens, closes, sets_layer, IsSides, sides, within_edge}
 
 -- a small number has few digits' worth
@@ -52,17 +50,20 @@ layer_same Implant Implant e = refl
 layer_same _ _ e = cc
 
 -- the bytes of a line from left to right
-written : (head w s h x y e more : List ℕ) → (head ++ w ++ s ++ h ++ s ++ (x ++ s ++ y ++ e)) ++ more ≡ head ++ (w ++ (s ++ (h ++ (s ++ (x ++ (s ++ (y ++ (e ++ more))))))))
+written : (head w s h x y e more : List ℕ) → (head ++ w ++ s ++ h ++ s ++ (x ++ s ++ y ++ e)) ++ more ≡ head ++ (w ++ (s ++ (h ++ (s ++ (x ++ (s ++
+    (y ++ (e ++ more))))))))
 written head w s h x y e more = simp append_assoc refl
 
-nested : (head w s h x y n z : List ℕ) → (head ++ (w ++ (s ++ (h ++ (s ++ (x ++ (s ++ (y ++ n)))))))) ++ z ≡ head ++ (w ++ (s ++ (h ++ (s ++ (x ++ (s ++ (y ++ (n ++ z))))))))
+nested : (head w s h x y n z : List ℕ) → (head ++ (w ++ (s ++ (h ++ (s ++ (x ++ (s ++ (y ++ n)))))))) ++ z ≡ head ++ (w ++ (s ++ (h ++ (s ++ (x ++
+    (s ++ (y ++ (n ++ z))))))))
 nested head w s h x y n z = simp append_assoc refl
 
 module _ (symbols : List CifSymbol) (drawing : CifDrawing) (n : ℕ) (boxes : List BoxShape) (b : BoxShape) (good : IsWritableBox b) where
   -- `B LENGTH WIDTH X Y`
   abbrev box_text : ℕ → ℕ → List ℕ
   box_text along across =
-      codes "B" ++ (codes " " ++ (decimal along ++ (codes " " ++ (decimal across ++ (codes " " ++ (signed_decimal (b.x1 +ℤ b.x2) ++ (codes " " ++ (signed_decimal (b.y1 +ℤ b.y2) ++ ([] ++ [])))))))))
+      codes "B" ++ (codes " " ++ (decimal along ++ (codes " " ++ (decimal across ++ (codes " " ++ (signed_decimal (b.x1 +ℤ b.x2) ++ (codes " " ++
+      (signed_decimal (b.y1 +ℤ b.y2) ++ ([] ++ [])))))))))
 
   abbrev box_command : ℕ → ℕ → CifCommand
   box_command along across = DrawsBox along across (record { x = b.x1 +ℤ b.x2; y = b.y1 +ℤ b.y2 }) None
@@ -109,7 +110,15 @@ module _ (symbols : List CifSymbol) (drawing : CifDrawing) (n : ℕ) (boxes : Li
       top : IsLength hundred (pos 2 *ℤ (b.y1 +ℤ b.y2) +ℤ pos across) b.y2
       top = right_edge b.y1 b.y2 across y good.top
 
-      drawn : b ∷ [] ≡ record { layer = b.layer; x1 = scaled hundred (pos 2 *ℤ (b.x1 +ℤ b.x2) -ℤ pos along); y1 = scaled hundred (pos 2 *ℤ (b.y1 +ℤ b.y2) -ℤ pos across); x2 = scaled hundred (pos 2 *ℤ (b.x1 +ℤ b.x2) +ℤ pos along); y2 = scaled hundred (pos 2 *ℤ (b.y1 +ℤ b.y2) +ℤ pos across) } ∷ []
+      drawn : b ∷ [] ≡ record {
+        layer = b.layer;
+        x1 = scaled hundred (pos 2 *ℤ (b.x1 +ℤ b.x2) -ℤ pos along);
+        y1 = scaled hundred (pos 2 *ℤ
+            (b.y1 +ℤ b.y2) -ℤ pos across);
+        x2 = scaled hundred (pos 2 *ℤ (b.x1 +ℤ b.x2) +ℤ pos along);
+        y2 = scaled hundred (pos 2 *ℤ
+            (b.y1 +ℤ b.y2) +ℤ pos across);
+      } ∷ []
       drawn = rw (left.is, bottom.is, right.is, top.is) refl
 
       clear : (code : CifCode) → MeetsCode code (within symbols drawing n boxes (Some b.layer)) (box_command along across) → ⊥
@@ -135,7 +144,8 @@ module _ (symbols : List CifSymbol) (drawing : CifDrawing) (n : ℕ) (boxes : Li
       let e : box_line b ++ more ≡ box_text along across ++ (59 ∷ 10 ∷ more) =
       rw (← x.is, ← y.is) (
       written (codes "B ") (decimal along) (codes " ") (decimal across) (signed_decimal (b.x1 +ℤ b.x2)) (signed_decimal (b.y1 +ℤ b.y2)) (codes ";\n") more
-      ∙ sym (nested (codes "B ") (decimal along) (codes " ") (decimal across) (signed_decimal (b.x1 +ℤ b.x2)) (signed_decimal (b.y1 +ℤ b.y2)) [] (59 ∷ 10 ∷ more))) in
+      ∙ sym (nested (codes "B ") (decimal along) (codes " ") (decimal across) (signed_decimal (b.x1 +ℤ b.x2)) (signed_decimal (b.y1 +ℤ b.y2)) []
+      (59 ∷ 10 ∷ more))) in
       rw e (step more xs ls (draws_box along across x y) (λ place. behind))
 
   -- the line of its layer and its own
@@ -152,7 +162,8 @@ module _ (symbols : List CifSymbol) (drawing : CifDrawing) (n : ℕ) (boxes : Li
           rw t (ap (λ l. l ++ more) (append_assoc (codes "L " ++ layer_word b.layer) (codes ";\n") (box_line b))
           ∙ append_assoc (codes "L " ++ layer_word b.layer) (codes ";\n" ++ box_line b) more
           ∙ append_assoc (codes "L ") (layer_word b.layer) (codes ";\n" ++ (box_line b ++ more))
-          ∙ sym (append_assoc (codes "L ") (layer_word b.layer ++ []) (59 ∷ 10 ∷ (box_line b ++ more)) ∙ ap (λ l. codes "L " ++ l) (append_assoc (layer_word b.layer) [] (59 ∷ 10 ∷ (box_line b ++ more))))) in
+          ∙ sym (append_assoc (codes "L ") (layer_word b.layer ++ []) (59 ∷ 10 ∷ (box_line b ++ more))
+          ∙ ap (λ l. codes "L " ++ l) (append_assoc (layer_word b.layer) [] (59 ∷ 10 ∷ (box_line b ++ more))))) in
           rw e (step (box_line b ++ more) xs ls (sets_layer symbols drawing n boxes before b.layer) (λ place. box_goes more xs ls behind))
       by_test None true t = cc
       by_test (Some last) true t =

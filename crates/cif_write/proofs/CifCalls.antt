@@ -1,27 +1,26 @@
 -- The kinds of a chip, one after another, and its calls, as they are read.
-use Rattle.std.proofs.Common.{◌≡◌, ◌≢◌, inl, inr, ℕ, zero, suc, ◌+◌, ◌*◌, ◌<◌, ◌≤◌, ◌^◌, Bool, true, false, ◌==◌, ◌||◌, cond, ℤ, pos, negsuc, neg_ℤ, ◌+ℤ◌, ◌-ℤ◌, ◌*ℤ◌, ◌≤ℤ◌, ◌<ℤ◌, List, [], ◌∷◌, ◌++◌, map, flat_map, length, Option, Some, None, slice_get, find, codes, refl, sym, ap, ◌∙◌, subst, append_assoc, append-nil, arith}
-use Rattle.std.specs.Prelude.{unsigned_abs}
+use Rattle.std.proofs.Common.{◌≡◌, inl, inr, ℕ, zero, suc, ◌+◌, ◌*◌, ◌<◌, ◌≤◌, ◌^◌, true, false, ◌==◌, ℤ, pos, ◌*ℤ◌, ◌<ℤ◌, List, [], ◌∷◌, ◌++◌, map, length, Some, None, slice_get, find, codes, refl, sym, ap, ◌∙◌, append_assoc, append-nil, arith}
 use Rattle.std.specs.Int.{int_min, int_max}
 use Rattle.std.specs.List.{list_any}
 use Rattle.std.specs.Fmt.{decimal, signed_decimal}
 use Rattle.std.proofs.lemmas.Int.{ints}
-use Rattle.std.proofs.lemmas.Bool.{cases_Bool, eqb-true, ne_eqb, eq-eqb}
+use Rattle.std.proofs.lemmas.Bool.{ne_eqb, eq-eqb}
 use Rattle.std.proofs.lemmas.Grind.{flat_map-append}
 use Rattle.rx_text.specs.declared.place.Place.{Place}
 use Rattle.geom.specs.declared.chip.Call.{Call}
 use Rattle.geom.specs.declared.chip.Label.{Label}
 use Rattle.geom.specs.declared.cif_code.CifCode.{CifCode}
-use Rattle.geom.specs.declared.cif_code.CifCode.TheVariants.{C1, C2, C3, C4, C5, C6, C7, C8, C9, C10, C11, C12, C13, C14, C15}
-use Rattle.geom.specs.Squares.{BoxShape, IsBox}
+use Rattle.geom.specs.declared.cif_code.CifCode.TheVariants.{C4, C7, C8, C9, C14}
+use Rattle.geom.specs.Squares.{BoxShape}
 use Rattle.geom.specs.Rows.{Among}
-use Rattle.geom.specs.CifCommands.{CifScale, CifMove, Translates, CifCommand, CallsSymbol, CifPart, Letters, Unsigned, Signed}
-use Rattle.geom.specs.CifDrawings.{CifSymbol, CifDrawing, CifState, CifStroke, symbol_of, scaled, stroke_of, chain_if_drawn, called_boxes, moved_by, CommandLeads}
+use Rattle.geom.specs.CifCommands.{CifScale, Translates, CifCommand, CallsSymbol, Letters, Unsigned, Signed}
+use Rattle.geom.specs.CifDrawings.{CifSymbol, CifDrawing, CifStroke, stroke_of, chain_if_drawn, called_boxes, moved_by, CommandLeads}
 use Rattle.geom.specs.CifCodes.{MeetsCode, IsTooGreat, IsOffGrid, IsFarOff}
 use Rattle.geom.specs.CifRefusals.{stroke_boxes}
-use Rattle.cif_write.specs.ChipText.{kind_lines, kinds_lines, call_line}
-use Rattle.cif_write.specs.WrittenChips.{IsWritableEdge, IsWritableBox, shifted, kind_at}
+use Rattle.cif_write.specs.ChipText.{kind_lines, kinds_lines}
+use Rattle.cif_write.specs.WrittenChips.{IsWritableEdge, IsWritableBox, shifted}
 use Rattle.cif_write.proofs.CifNumbers.{number_writes, signed_writes, IsWithin40, IsLength, length_of}
-use Rattle.cif_write.proofs.CifSteps.{NoneIs, none_is, not_great, ReadsCommand, GoesBehind, step}
+use Rattle.cif_write.proofs.CifSteps.{none_is, not_great, ReadsCommand, GoesBehind}
 use Rattle.cif_write.proofs.CifKinds.{outside, kind_symbol, part_then, within_numbers, within_edge}
 use Rattle.cif_write.proofs.CifBoxes.{small_size, AreWritable, kind_goes}
 
@@ -49,7 +48,8 @@ kinds_go drawing n (boxes ∷ kinds) symbols more xs ls good few fresh behind =
     (one_more n boxes symbols fresh) behind in
     let e : kinds_lines n (boxes ∷ kinds) ++ more ≡ kind_lines (n + 1) boxes ++ (kinds_lines (n + 1) kinds ++ more) =
     append_assoc (kind_lines (n + 1) boxes) (kinds_lines (n + 1) kinds) more in
-    rw e (kind_goes symbols drawing (n + 1) boxes (kinds_lines (n + 1) kinds ++ more) xs ls (good boxes (inl refl)) (omega (arith, few)) (fresh (n + 1) (omega arith)) later)
+    rw e (kind_goes symbols drawing (n + 1) boxes (kinds_lines (n + 1) kinds ++ more) xs ls (good boxes (inl refl)) (omega (arith, few)) (fresh
+    (n + 1) (omega arith)) later)
 
 -- kinds behind it leave a symbol where it is
 kept : (m n : ℕ) (kinds : List (List BoxShape)) (symbols : List CifSymbol) → m ≤ n
@@ -125,19 +125,23 @@ module _ (symbols : List CifSymbol) (drawing : CifDrawing) (call : Call) (boxes 
   abbrev pub called_drawing : Place → CifDrawing
   called_drawing place = record { strokes = drawing.strokes ++ stroke_of place (map (shifted call.x call.y) boxes); labels = drawing.labels }
 
-  pub call_read : ReadsCommand (outside symbols drawing) call_command call_text (λ place. outside symbols (called_drawing place)) (map (shifted call.x call.y) boxes) []
+  pub call_read : ReadsCommand (outside symbols drawing) call_command call_text (λ place. outside symbols (called_drawing place)) (map
+      (shifted call.x call.y) boxes) []
   call_read = record {
     spelled = (
       tt,
       part_then (Letters (codes "C")) false _ (codes "C") (codes " ") _ refl refl (λ e. cc)
           (part_then (Unsigned (call.kind + 1)) false _ (decimal (call.kind + 1)) (codes " ") _ (number_writes _ (omega (arith, few))) refl (λ e. cc)
           (part_then (Letters (codes "T")) false _ (codes "T") (codes " ") _ refl refl (λ e. cc)
-          (part_then (Signed (pos 200 *ℤ call.x)) true _ (signed_decimal (pos 200 *ℤ call.x)) (codes " ") _ (signed_writes _ (small_size _ (within_place _ near_x))) refl (λ e f. cc)
-          (part_then (Signed (pos 200 *ℤ call.y)) false _ (signed_decimal (pos 200 *ℤ call.y)) [] _ (signed_writes _ (small_size _ (within_place _ near_y))) refl (λ e. cc) refl)))),
+          (part_then (Signed (pos 200 *ℤ call.x)) true _ (signed_decimal (pos 200 *ℤ call.x)) (codes " ") _ (signed_writes _ (small_size _
+          (within_place _ near_x))) refl (λ e f. cc)
+          (part_then (Signed (pos 200 *ℤ call.y)) false _ (signed_decimal (pos 200 *ℤ call.y)) [] _ (signed_writes _ (small_size _
+          (within_place _ near_y))) refl (λ e. cc) refl)))),
     );
     clear = clear;
     leads = leads;
-    boxes_are = λ place. flat_map-append (λ (stroke : CifStroke). stroke.boxes) drawing.strokes (stroke_of place (map (shifted call.x call.y) boxes)) ∙ ap (λ l. stroke_boxes drawing.strokes ++ l) (one_stroke place (map (shifted call.x call.y) boxes));
+    boxes_are = λ place. flat_map-append (λ (stroke : CifStroke). stroke.boxes) drawing.strokes (stroke_of place (map
+        (shifted call.x call.y) boxes)) ∙ ap (λ l. stroke_boxes drawing.strokes ++ l) (one_stroke place (map (shifted call.x call.y) boxes));
     labels_are = λ place. sym (append-nil drawing.labels);
   }
     where
@@ -147,11 +151,17 @@ module _ (symbols : List CifSymbol) (drawing : CifDrawing) (call : Call) (boxes 
 
       clear : (code : CifCode) → MeetsCode code (outside symbols drawing) call_command → ⊥
       clear C4 h = let e : Some (kind_symbol (call.kind + 1) boxes) ≡ None = sym found ∙ h in cc
-      clear C7 h = none_is (IsOffGrid one) ((pos 2 *ℤ (pos 200 *ℤ call.x)) ∷ (pos 2 *ℤ (pos 200 *ℤ call.y)) ∷ []) ((placed _ near_x).on_grid, ((placed _ near_y).on_grid, tt)) h
+      clear C7 h = none_is (IsOffGrid one) ((pos 2 *ℤ (pos 200 *ℤ call.x)) ∷ (pos 2 *ℤ (pos 200 *ℤ call.y)) ∷ []) (
+        (placed _ near_x).on_grid,
+        ((placed _ near_y).on_grid, tt),
+      ) h
       clear C8 h = elim h [
         | inl great ↦ none_is IsTooGreat (pos (call.kind + 1) ∷ (pos 200 *ℤ call.x) ∷ (pos 200 *ℤ call.y) ∷ [])
             (not_great _ (within_numbers _ few), (not_great _ (within_place _ near_x), (not_great _ (within_place _ near_y), tt))) great
-        | inr far ↦ none_is (IsFarOff one) ((pos 2 *ℤ (pos 200 *ℤ call.x)) ∷ (pos 2 *ℤ (pos 200 *ℤ call.y)) ∷ []) ((placed _ near_x).near, ((placed _ near_y).near, tt)) far
+        | inr far ↦ none_is (IsFarOff one) ((pos 2 *ℤ (pos 200 *ℤ call.x)) ∷ (pos 2 *ℤ (pos 200 *ℤ call.y)) ∷ []) (
+          (placed _ near_x).near,
+          ((placed _ near_y).near, tt),
+        ) far
       ]
       clear C9 h = cc
       clear C14 h = let g = rw found at h in short boxes g

@@ -1,23 +1,21 @@
 -- The definitions of kinds, as they are read.
-use Rattle.std.proofs.Common.{◌≡◌, ◌≢◌, inl, inr, ℕ, zero, suc, ◌+◌, ◌*◌, ◌<◌, ◌≤◌, ◌^◌, Bool, true, false, ◌==◌, ℤ, pos, negsuc, neg_ℤ, ◌+ℤ◌, ◌-ℤ◌, ◌*ℤ◌, ◌≤ℤ◌, ◌<ℤ◌, List, [], ◌∷◌, ◌++◌, Option, Some, None, find, codes, refl, sym, ap, ◌∙◌, subst, append_assoc, append-nil, arith}
+use Rattle.std.proofs.Common.{◌≡◌, ◌≢◌, inl, inr, ℕ, ◌+◌, ◌*◌, ◌<◌, ◌≤◌, ◌^◌, Bool, true, false, ◌==◌, ℤ, pos, negsuc, ◌-ℤ◌, ◌*ℤ◌, ◌<ℤ◌, List, [], ◌∷◌, ◌++◌, Option, Some, None, codes, refl, sym, ◌∙◌, append_assoc, append-nil, arith}
 use Rattle.std.specs.List.{list_any}
-use Rattle.std.specs.Fmt.{decimal, signed_decimal}
+use Rattle.std.specs.Fmt.{decimal}
 use Rattle.std.proofs.lemmas.Int.{ints}
-use Rattle.rx_text.specs.declared.place.Place.{Place}
 use Rattle.geom.specs.declared.layer.Layer.{Layer}
 use Rattle.geom.specs.declared.layer.Layer.TheVariants.{Diffusion, Poly, Metal, Cut, Implant}
-use Rattle.geom.specs.declared.chip.Label.{Label}
 use Rattle.geom.specs.declared.cif_code.CifCode.{CifCode}
-use Rattle.geom.specs.declared.cif_code.CifCode.TheVariants.{C1, C2, C3, C4, C5, C6, C7, C8, C9, C10, C11, C12, C13, C14, C15}
-use Rattle.geom.specs.Squares.{BoxShape, IsBox}
-use Rattle.geom.specs.CifCommands.{CifScale, CifCommand, Opens, Closes, SetsLayer, DrawsBox, CifPart, Letters, Unsigned, Signed, SpellsPart, SpellsParts, PartThen, AreCifBlanks, SpellsCommand, IsShortName}
+use Rattle.geom.specs.declared.cif_code.CifCode.TheVariants.{C2, C5, C6, C8}
+use Rattle.geom.specs.Squares.{BoxShape}
+use Rattle.geom.specs.CifCommands.{CifScale, Opens, Closes, SetsLayer, CifPart, Letters, Unsigned, SpellsPart, PartThen, AreCifBlanks, IsShortName}
 use Rattle.geom.specs.CifLabels.{layer_word, layer_named}
 use Rattle.geom.specs.CifDrawings.{CifSymbol, CifDrawing, CifState}
-use Rattle.geom.specs.CifCodes.{MeetsCode, is_defined, IsTooGreat, IsOffGrid, IsFarOff}
+use Rattle.geom.specs.CifCodes.{MeetsCode, IsTooGreat}
 use Rattle.geom.specs.CifRefusals.{stroke_boxes}
-use Rattle.cif_write.specs.WrittenChips.{IsWritableEdge, IsWritableBox}
-use Rattle.cif_write.proofs.CifNumbers.{number_writes, signed_writes, IsWithin40, IsLength, length_of}
-use Rattle.cif_write.proofs.CifSteps.{NoneIs, none_is, not_great, ReadsCommand}
+use Rattle.cif_write.specs.WrittenChips.{IsWritableEdge}
+use Rattle.cif_write.proofs.CifNumbers.{number_writes, IsWithin40}
+use Rattle.cif_write.proofs.CifSteps.{none_is, not_great, ReadsCommand}
 
 -- a state outside definitions in which no layer is set
 abbrev pub outside : List CifSymbol → CifDrawing → CifState
@@ -89,7 +87,8 @@ module _ (symbols : List CifSymbol) (drawing : CifDrawing) (n : ℕ) where
       clear other h = h
 
   -- `DF`
-  pub closes : (boxes : List BoxShape) (layer : Option Layer) → ReadsCommand (within symbols drawing n boxes layer) Closes (codes "DF" ++ ([] ++ [])) (λ place. outside (kind_symbol n boxes ∷ symbols) drawing) [] []
+  pub closes : (boxes : List BoxShape) (layer : Option Layer)
+      → ReadsCommand (within symbols drawing n boxes layer) Closes (codes "DF" ++ ([] ++ [])) (λ place. outside (kind_symbol n boxes ∷ symbols) drawing) [] []
   closes boxes layer = record {
     spelled = (tt, part_then (Letters (codes "DF")) false _ (codes "DF") [] _ refl refl (λ e. cc) refl);
     clear = clear;

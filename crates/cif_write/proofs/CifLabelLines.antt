@@ -1,31 +1,29 @@
 -- The labels of a chip, as they are read.
-use Rattle.std.proofs.Common.{◌≡◌, ◌≢◌, inl, inr, ℕ, zero, suc, ◌+◌, ◌*◌, ◌<◌, ◌≤◌, ◌^◌, Bool, true, false, not, ◌==◌, ◌&&◌, ◌||◌, nat_le, cond, ℤ, pos, negsuc, neg_ℤ, ◌+ℤ◌, ◌-ℤ◌, ◌*ℤ◌, ◌≤ℤ◌, ◌<ℤ◌, List, [], ◌∷◌, ◌++◌, filter, length, drop, get_or, Option, Some, None, is_some, IfSome, codes, refl, sym, ap, ◌∙◌, subst, append_assoc, append-nil, arith}
+use Rattle.std.proofs.Common.{◌≡◌, ◌≢◌, inl, inr, ℕ, ◌+◌, ◌*◌, Bool, true, false, not, ◌==◌, ◌&&◌, nat_le, ℤ, pos, neg_ℤ, ◌*ℤ◌, List, [], ◌∷◌, ◌++◌, length, drop, get_or, Option, Some, None, IfSome, codes, refl, sym, ap, ◌∙◌, subst, append_assoc, append-nil, arith}
 use Rattle.std.specs.List.{list_all}
-use Rattle.std.specs.Fmt.{decimal, signed_decimal}
+use Rattle.std.specs.Fmt.{signed_decimal}
 use Rattle.std.specs.Str.Parse.{digits_value}
-use Rattle.std.proofs.lemmas.Int.{ints}
-use Rattle.std.proofs.lemmas.Bool.{cases_Bool, ne_eqb, leb-true}
+use Rattle.std.proofs.lemmas.Bool.{ne_eqb, leb-true}
 use Rattle.rx_text.specs.Name.{is_letter, is_name_byte, begins_as_name, is_name}
 use Rattle.rx_text.specs.NumberInText.{is_digit}
-use Rattle.rx_text.specs.Role.{NamedRole, bears_name}
+use Rattle.rx_text.specs.Role.{NamedRole}
 use Rattle.rx_text.specs.declared.pad_name.Role.{Role}
 use Rattle.rx_text.specs.declared.pad_name.Role.TheVariants.{Vdd, Gnd, Phi1, Phi2, Reset, Input, Output}
-use Rattle.rx_text.specs.declared.place.Place.{Place}
 use Rattle.geom.specs.declared.layer.Layer.{Layer}
 use Rattle.geom.specs.declared.layer.Layer.TheVariants.{Diffusion, Poly, Metal, Cut, Implant}
 use Rattle.geom.specs.declared.chip.Label.{Label}
 use Rattle.geom.specs.declared.cif_code.CifCode.{CifCode}
-use Rattle.geom.specs.declared.cif_code.CifCode.TheVariants.{C1, C2, C3, C4, C5, C6, C7, C8, C9, C10, C11, C12, C13, C14, C15}
+use Rattle.geom.specs.declared.cif_code.CifCode.TheVariants.{C7, C8, C12}
 use Rattle.geom.specs.Squares.{BoxShape}
-use Rattle.geom.specs.CifCommands.{CifCommand, Extension, WritesNumber, WritesSigned, IsExtension}
-use Rattle.geom.specs.CifLabels.{layer_word, pad_word, own_word, label_word, IsPadName, with_byte, cut_at_spaces, has_bytes, label_words, NamesPad, IsLabel, bears_labels}
-use Rattle.geom.specs.CifDrawings.{CifSymbol, CifDrawing, CifState}
-use Rattle.geom.specs.CifCodes.{MeetsCode, SomeIs, IsTooGreat, IsOffGrid, HasGreatNumber, LabelIsOffGrid}
+use Rattle.geom.specs.CifCommands.{Extension, WritesNumber, WritesSigned}
+use Rattle.geom.specs.CifLabels.{layer_word, pad_word, own_word, label_word, cut_at_spaces, has_bytes, label_words, NamesPad, IsLabel}
+use Rattle.geom.specs.CifDrawings.{CifSymbol, CifDrawing}
+use Rattle.geom.specs.CifCodes.{MeetsCode, IsTooGreat, IsOffGrid, HasGreatNumber}
 use Rattle.geom.specs.CifRefusals.{stroke_boxes}
 use Rattle.cif_write.specs.ChipText.{label_line}
-use Rattle.cif_write.specs.WrittenChips.{IsWritableEdge, IsWritableLabel}
-use Rattle.cif_write.proofs.CifNumbers.{number_writes, signed_writes, IsWithin40, IsLength}
-use Rattle.cif_write.proofs.CifSteps.{NoneIs, none_is, not_great, ReadsCommand, GoesBehind, step}
+use Rattle.cif_write.specs.WrittenChips.{IsWritableLabel}
+use Rattle.cif_write.proofs.CifNumbers.{signed_writes}
+use Rattle.cif_write.proofs.CifSteps.{none_is, not_great, ReadsCommand, GoesBehind, step}
 use Rattle.cif_write.proofs.CifKinds.{outside}
 use Rattle.cif_write.proofs.CifBoxes.{small_size}
 use Rattle.cif_write.proofs.CifCalls.{one, placed, within_place}
@@ -212,7 +210,8 @@ module _ (symbols : List CifSymbol) (drawing : CifDrawing) (label : Label) (good
     where
       extension : list_all no_end (52 ∷ 32 ∷ (label_word label.pad ++ (32 ∷ (x_word ++ (32 ∷ (y_word ++ (32 ∷ layer_word label.layer))))))) ≡ true
       extension =
-          goes_on (label_word label.pad) _ name_is.plain (goes_on x_word _ x_is.plain (goes_on y_word _ y_is.plain (all_no_end (layer_word label.layer) (plain_layer label.layer).plain)))
+          goes_on (label_word label.pad) _ name_is.plain (goes_on x_word _ x_is.plain (goes_on y_word _ y_is.plain (all_no_end
+          (layer_word label.layer) (plain_layer label.layer).plain)))
 
       clear : (code : CifCode) → MeetsCode code (outside symbols drawing) (Extension label_text) → ⊥
       clear C7 h =
@@ -222,7 +221,10 @@ module _ (symbols : List CifSymbol) (drawing : CifDrawing) (label : Label) (good
           let x : h.x ≡ pos 200 *ℤ label.x = writes_same _ _ x_word (rw first at h.across) x_writes in
           let y : h.y ≡ pos 200 *ℤ label.y = writes_same _ _ y_word (rw second at h.upward) y_writes in
           let off = rw (x, y) at h.off in
-          none_is (IsOffGrid one) ((pos 2 *ℤ (pos 200 *ℤ label.x)) ∷ (pos 2 *ℤ (pos 200 *ℤ label.y)) ∷ []) ((placed _ good.x).on_grid, ((placed _ good.y).on_grid, tt)) off
+          none_is (IsOffGrid one) ((pos 2 *ℤ (pos 200 *ℤ label.x)) ∷ (pos 2 *ℤ (pos 200 *ℤ label.y)) ∷ []) (
+            (placed _ good.x).on_grid,
+            ((placed _ good.y).on_grid, tt),
+          ) off
       clear C8 h =
           let great : HasGreatNumber (x_word ∷ y_word ∷ layer_word label.layer ∷ []) = subst HasGreatNumber (named h.0 h.1 h.2) h.3 in
           elim great.1 [

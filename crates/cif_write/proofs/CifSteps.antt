@@ -1,5 +1,5 @@
 -- Commands of a CIF text that are read one after another.
-use Rattle.std.proofs.Common.{◌≡◌, ◌⊎◌, inl, inr, ℕ, ◌^◌, ℤ, pos, neg_ℤ, ◌≤ℤ◌, List, [], ◌∷◌, ◌++◌, map, flat_map, Option, None, codes, refl, sym, ap, ◌∙◌, subst, append_assoc, append-nil, arith}
+use Rattle.std.proofs.Common.{◌≡◌, inl, inr, ℕ, ℤ, List, [], ◌∷◌, ◌++◌, None, codes, refl, sym, ap, ◌∙◌, append_assoc, append-nil, arith}
 use Rattle.std.proofs.lemmas.Int.{ints}
 use Rattle.rx_text.specs.TextPlace.{place_behind}
 use Rattle.rx_text.specs.declared.place.Place.{Place}
@@ -9,7 +9,7 @@ use Rattle.geom.specs.Squares.{BoxShape}
 use Rattle.geom.specs.CifCommands.{CifCommand, AreCifBlanks, SpellsCommand}
 use Rattle.geom.specs.CifDrawings.{CifState, CommandLeads}
 use Rattle.geom.specs.CifCodes.{MeetsCode, SomeIs, IsTooGreat}
-use Rattle.geom.specs.CifRefusals.{CommandHere, CommandRead, DrawsFrom, front_with, stroke_boxes}
+use Rattle.geom.specs.CifRefusals.{CommandHere, DrawsFrom, front_with, stroke_boxes}
 use Rattle.cif_write.proofs.CifNumbers.{IsWithin40}
 
 -- none of the numbers is such
@@ -45,12 +45,23 @@ pub record ReadsCommand (s : CifState) (c : CifCommand) (text : List ℕ) (next 
   pub labels_are : (place : Place) → (next place).drawing.labels ≡ s.drawing.labels ++ labels
 
 -- the command, the end of its line, and what is read behind it
-pub step : {s : CifState} {c : CifCommand} {text : List ℕ} {next : Place → CifState} {xs : List BoxShape} {ls : List Label} (more : List ℕ) (boxes : List BoxShape) (labels : List Label)
-    → ReadsCommand s c text next xs ls → ((place : Place) → GoesBehind (next place) more boxes labels) → GoesBehind s (text ++ (59 ∷ 10 ∷ more)) (xs ++ boxes) (ls ++ labels)
+pub step : {s : CifState} {c : CifCommand} {text : List ℕ} {next : Place
+    → CifState} {xs : List BoxShape} {ls : List Label} (more : List ℕ) (boxes : List BoxShape) (labels : List Label)
+    → ReadsCommand s c text next xs ls → ((place : Place) → GoesBehind (next place) more boxes labels)
+    → GoesBehind s (text ++ (59 ∷ 10 ∷ more)) (xs ++ boxes) (ls ++ labels)
 step {s} {c} {text} {next} {xs} {ls} more boxes labels reads behind front gap blanks =
     let place = place_behind (front ++ gap) in
     let here : CommandHere (gap ++ (text ++ (59 ∷ 10 ∷ more))) =
-    record { gap = gap; bytes = text; behind = 10 ∷ more; is = sym (append_assoc gap text (59 ∷ 10 ∷ more)); blanks = blanks; command = c; spelled = reads.spelled } in
+    record {
+      gap = gap;
+      bytes = text;
+      behind = 10 ∷ more;
+      is = sym (append_assoc gap text
+          (59 ∷ 10 ∷ more));
+      blanks = blanks;
+      command = c;
+      spelled = reads.spelled;
+    } in
     let later = behind place (front_with front (gap ++ (text ++ (59 ∷ 10 ∷ more))) here) (10 ∷ []) refl in
     record {
       last = later.last;

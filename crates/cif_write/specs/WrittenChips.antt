@@ -1,5 +1,5 @@
 -- What the text of a chip draws.
-use Rattle.std.specs.Prelude.{◌≡◌, ℕ, ◌<◌, ◌^◌, true, ℤ, pos, neg_ℤ, ◌+ℤ◌, ◌≤ℤ◌, List, [], map, flat_map, slice_get, length, Option, Some, None}
+use Rattle.std.specs.Prelude.{◌≡◌, ◌<◌, ◌^◌, true, ℤ, pos, neg_ℤ, ◌+ℤ◌, ◌≤ℤ◌, List, [], map, flat_map, slice_get, length, Option, Some, None}
 use Rattle.geom.specs.declared.chip.Call.{Call}
 use Rattle.geom.specs.declared.chip.Label.{Label}
 use Rattle.geom.specs.Squares.{BoxShape, IsBox}

@@ -1,21 +1,17 @@
 -- Small CIF texts, command by command.
-use Rattle.std.proofs.Common.{◌≡◌, ◌≢◌, inl, inr, ℕ, ◌*◌, ◌<◌, ◌≤◌, ◌^◌, Bool, true, false, ℤ, pos, negsuc, neg_ℤ, ◌*ℤ◌, ◌≤ℤ◌, ◌<ℤ◌, List, [], ◌∷◌, ◌++◌, Option, Some, None, codes, refl, sym, subst, append_assoc, arith}
-use Rattle.std.specs.Int.{int_min, int_max}
+use Rattle.std.proofs.Common.{◌≡◌, ◌≢◌, inl, inr, ℕ, ◌*◌, ◌<◌, ◌≤◌, ◌^◌, Bool, true, ℤ, pos, negsuc, neg_ℤ, ◌*ℤ◌, ◌≤ℤ◌, List, [], ◌∷◌, ◌++◌, Option, Some, None, codes, refl, sym, subst, append_assoc, arith}
 use Rattle.std.proofs.lemmas.Int.{ints}
 use Rattle.rx_text.specs.TextPlace.{place_behind}
-use Rattle.rx_text.specs.declared.place.Place.{Place}
 use Rattle.rx_text.specs.declared.place.Place.TheVariants.{Text}
 use Rattle.geom.specs.declared.layer.Layer.{Layer}
 use Rattle.geom.specs.declared.layer.Layer.TheVariants.{Metal}
-use Rattle.geom.specs.declared.point.Point.{Point}
 use Rattle.geom.specs.declared.cif_code.CifCode.{CifCode}
-use Rattle.geom.specs.declared.cif_code.CifCode.TheVariants.{C1, C2, C3, C4, C5, C6, C7, C8, C9, C10, C11, C12, C13, C14, C15}
+use Rattle.geom.specs.declared.cif_code.CifCode.TheVariants.{C1, C2, C3, C4, C5, C6, C7, C8, C9, C11, C14, C15}
 use Rattle.geom.specs.Squares.{BoxShape, IsBox}
-use Rattle.geom.specs.Rows.{Among}
-use Rattle.geom.specs.CifCommands.{CifScale, CifMove, Translates, MirrorsX, Rotates, CifCommand, Opens, Closes, CallsSymbol, SetsLayer, DrawsBox, DrawsWire, CifPart, Letters, Unsigned, Signed, SpellsPart, SpellsParts, PartThen, AreCifBlanks, SpellsCommand, WritesNumber, WritesSigned, IsShortName}
-use Rattle.geom.specs.CifDrawings.{CifSymbol, CifOpening, CifDrawing, CifState, blank_state, CommandLeads}
+use Rattle.geom.specs.CifCommands.{CifScale, CifMove, Translates, MirrorsX, Rotates, CifCommand, Opens, Closes, CallsSymbol, SetsLayer, DrawsBox, DrawsWire, CifPart, SpellsPart, PartThen, AreCifBlanks, SpellsCommand, WritesNumber, WritesSigned}
+use Rattle.geom.specs.CifDrawings.{CifState, blank_state, CommandLeads}
 use Rattle.geom.specs.CifCodes.{MeetsCode, SomeIs, IsTooGreat, IsOffGrid, IsFarOff, code_number}
-use Rattle.geom.specs.CifRefusals.{CommandHere, CommandRead, CommandFault, DrawsFrom, RefusedFrom, CifRefusal, DrawsCif}
+use Rattle.geom.specs.CifRefusals.{CommandFault, DrawsFrom, RefusedFrom, CifRefusal, DrawsCif}
 
 -- a part, blanks and more parts
 part : {p : CifPart} {needs : Bool} {More : List ℕ → Type 0} (word gap rest : List ℕ) → SpellsPart p word → AreCifBlanks gap → (needs ≡ true → gap ≢ [])
@@ -76,7 +72,8 @@ metal = (
 )
 
 -- `B 800 800 X 400`
-box : (x : ℕ) (bytes : List ℕ) → WritesNumber x bytes → SpellsCommand (DrawsBox 800 800 (record { x = pos x; y = pos 400 }) None) (codes "B 800 800 " ++ (bytes ++ codes " 400"))
+box : (x : ℕ) (bytes : List ℕ) → WritesNumber x bytes → SpellsCommand (DrawsBox 800 800 (record { x = pos x; y = pos 400 }) None)
+    (codes "B 800 800 " ++ (bytes ++ codes " 400"))
 box x bytes w = (
   tt,
   part (codes "B") (codes " ") _ refl refl (λ e. cc)
@@ -214,10 +211,28 @@ tall_clear C3 h = cc
 tall_clear C7 h =
     none_is (IsOffGrid two) (pos 0 ∷ pos 0 ∷ pos 800 ∷ pos 1600 ∷ []) ((λ off. off refl), ((λ off. off refl), ((λ off. off refl), ((λ off. off refl), tt)))) h
 tall_clear C8 (inl great) =
-    none_is IsTooGreat (pos 400 ∷ pos 800 ∷ pos 200 ∷ pos 400 ∷ []) (fine 400 (omega arith), (fine 800 (omega arith), (fine 200 (omega arith), (fine 400 (omega arith), tt)))) great
+    none_is IsTooGreat (pos 400 ∷ pos 800 ∷ pos 200 ∷ pos 400 ∷ []) (
+      fine 400 (omega arith),
+      (
+        fine 800 (omega arith),
+        (
+          fine 200 (omega arith),
+          (fine 400 (omega arith), tt),
+        ),
+      ),
+    ) great
 tall_clear C8 (inr far) =
-    none_is (IsFarOff two) (pos 0 ∷ pos 0 ∷ pos 800 ∷ pos 1600 ∷ [])
-    (near 2 (pos 0) (omega (arith, ints)) (omega (arith, ints)), (near 2 (pos 0) (omega (arith, ints)) (omega (arith, ints)), (near 2 (pos 800) (omega (arith, ints)) (omega (arith, ints)), (near 2 (pos 1600) (omega (arith, ints)) (omega (arith, ints)), tt)))) far
+    none_is (IsFarOff two) (pos 0 ∷ pos 0 ∷ pos 800 ∷ pos 1600 ∷ []) (
+      near 2 (pos 0) (omega (arith, ints)) (omega (arith, ints)),
+      (
+        near 2 (pos 0) (omega (arith, ints)) (omega (arith, ints)),
+        (
+          near 2 (pos 800)
+              (omega (arith, ints)) (omega (arith, ints)),
+          (near 2 (pos 1600) (omega (arith, ints)) (omega (arith, ints)), tt),
+        ),
+      ),
+    ) far
 tall_clear C9 (inl none) = omega (arith, none)
 tall_clear C9 (inr (inl none)) = omega (arith, none)
 tall_clear C9 (inr (inr oblique)) = cc
@@ -251,7 +266,16 @@ calls_clear : (code : CifCode) → MeetsCode code with_symbol (CallsSymbol 1 mov
 calls_clear C4 h = cc
 calls_clear C7 h = none_is (IsOffGrid (record { times = 1; per = 1 })) (pos 5600 ∷ pos 0 ∷ []) ((λ off. off refl), ((λ off. off refl), tt)) h
 calls_clear C8 (inl great) =
-    none_is IsTooGreat (pos 1 ∷ pos 0 ∷ pos 1 ∷ pos 2800 ∷ pos 0 ∷ []) (fine 1 (omega arith), (fine 0 (omega arith), (fine 1 (omega arith), (fine 2800 (omega arith), (fine 0 (omega arith), tt))))) great
+    none_is IsTooGreat (pos 1 ∷ pos 0 ∷ pos 1 ∷ pos 2800 ∷ pos 0 ∷ []) (
+      fine 1 (omega arith),
+      (
+        fine 0 (omega arith),
+        (
+          fine 1 (omega arith),
+          (fine 2800 (omega arith), (fine 0 (omega arith), tt)),
+        ),
+      ),
+    ) great
 calls_clear C8 (inr far) =
     none_is (IsFarOff (record { times = 1; per = 1 })) (pos 5600 ∷ pos 0 ∷ [])
     (near 1 (pos 5600) (omega (arith, ints)) (omega (arith, ints)), (near 1 (pos 0) (omega (arith, ints)) (omega (arith, ints)), tt)) far
@@ -265,12 +289,17 @@ turned = record {
   is_text = record {
     last = with_call;
     draws =
-        go blank_state (in_symbol [] None) [] [] (codes "DS 1 2 1") (codes " L NM; B 400 800 200 400; DF; C 1 M X R 0 1 T 2800 0; E") _ refl opens_two opens_clear refl
-        (go (in_symbol [] None) (in_symbol [] (Some Metal)) (codes "DS 1 2 1;") (codes " ") (codes "L NM") (codes " B 400 800 200 400; DF; C 1 M X R 0 1 T 2800 0; E") _ refl metal (metal_clear _) refl
-        (go (in_symbol [] (Some Metal)) (in_symbol (tall_box ∷ []) (Some Metal)) (codes "DS 1 2 1; L NM;") (codes " ") (codes "B 400 800 200 400") (codes " DF; C 1 M X R 0 1 T 2800 0; E") _ refl tall tall_clear (tall_box ∷ [], refl, refl)
-        (go (in_symbol (tall_box ∷ []) (Some Metal)) with_symbol (codes "DS 1 2 1; L NM; B 400 800 200 400;") (codes " ") (codes "DF") (codes " C 1 M X R 0 1 T 2800 0; E") Closes refl
+        go blank_state (in_symbol [] None) [] [] (codes "DS 1 2 1")
+        (codes " L NM; B 400 800 200 400; DF; C 1 M X R 0 1 T 2800 0; E") _ refl opens_two opens_clear refl
+        (go (in_symbol [] None) (in_symbol [] (Some Metal)) (codes "DS 1 2 1;") (codes " ") (codes "L NM")
+        (codes " B 400 800 200 400; DF; C 1 M X R 0 1 T 2800 0; E") _ refl metal (metal_clear _) refl
+        (go (in_symbol [] (Some Metal)) (in_symbol (tall_box ∷ []) (Some Metal)) (codes "DS 1 2 1; L NM;") (codes " ") (codes "B 400 800 200 400")
+        (codes " DF; C 1 M X R 0 1 T 2800 0; E") _ refl tall tall_clear (tall_box ∷ [], refl, refl)
+        (go (in_symbol (tall_box ∷ []) (Some Metal)) with_symbol (codes "DS 1 2 1; L NM; B 400 800 200 400;") (codes " ") (codes "DF")
+        (codes " C 1 M X R 0 1 T 2800 0; E") Closes refl
         (tt, part (codes "DF") [] [] refl refl (λ e. cc) refl) closes_clear refl
-        (go with_symbol with_call (codes "DS 1 2 1; L NM; B 400 800 200 400; DF;") (codes " ") (codes "C 1 M X R 0 1 T 2800 0") (codes " E") _ refl calls_turned calls_clear (turned_box ∷ [], refl, refl)
+        (go with_symbol with_call (codes "DS 1 2 1; L NM; B 400 800 200 400; DF;") (codes " ") (codes "C 1 M X R 0 1 T 2800 0")
+        (codes " E") _ refl calls_turned calls_clear (turned_box ∷ [], refl, refl)
         (DrawsFrom.end with_call (codes "DS 1 2 1; L NM; B 400 800 200 400; DF; C 1 M X R 0 1 T 2800 0;") (codes " E") (codes " ") [] refl refl refl refl)))));
     drawing_is = refl;
   };
@@ -326,8 +355,17 @@ wire_clear C8 (inl great) =
     none_is IsTooGreat (pos 600 ∷ pos 300 ∷ pos 300 ∷ pos 2300 ∷ pos 300 ∷ [])
     (fine 600 (omega arith), (fine 300 (omega arith), (fine 300 (omega arith), (fine 2300 (omega arith), (fine 300 (omega arith), tt))))) great
 wire_clear C8 (inr far) =
-    none_is (IsFarOff no_scale) (pos 0 ∷ pos 0 ∷ pos 5200 ∷ pos 1200 ∷ [])
-    (near 1 (pos 0) (omega (arith, ints)) (omega (arith, ints)), (near 1 (pos 0) (omega (arith, ints)) (omega (arith, ints)), (near 1 (pos 5200) (omega (arith, ints)) (omega (arith, ints)), (near 1 (pos 1200) (omega (arith, ints)) (omega (arith, ints)), tt)))) far
+    none_is (IsFarOff no_scale) (pos 0 ∷ pos 0 ∷ pos 5200 ∷ pos 1200 ∷ []) (
+      near 1 (pos 0) (omega (arith, ints)) (omega (arith, ints)),
+      (
+        near 1 (pos 0) (omega (arith, ints)) (omega (arith, ints)),
+        (
+          near 1 (pos 5200)
+              (omega (arith, ints)) (omega (arith, ints)),
+          (near 1 (pos 1200) (omega (arith, ints)) (omega (arith, ints)), tt),
+        ),
+      ),
+    ) far
 wire_clear C9 (inl none) = omega (arith, none)
 wire_clear C9 (inr oblique) = cc
 wire_clear C15 h = omega (arith, h)

@@ -1,5 +1,5 @@
 -- What the commands of a CIF text draw.
-use Rattle.std.specs.Prelude.{◌≡◌, ◌⊎◌, ℕ, zero, ◌+◌, ◌*◌, ◌^◌, max, Bool, true, false, ◌==◌, ℤ, pos, negsuc, neg_ℤ, ◌+ℤ◌, ◌-ℤ◌, ◌*ℤ◌, int_div, List, [], ◌∷◌, ◌++◌, map, fold, find, flat_map, Option, Some, None, IfSome, if◌then◌else◌}
+use Rattle.std.specs.Prelude.{◌≡◌, ◌⊎◌, ℕ, zero, ◌+◌, ◌*◌, max, true, false, ◌==◌, ℤ, pos, negsuc, ◌+ℤ◌, ◌-ℤ◌, ◌*ℤ◌, int_div, List, [], ◌∷◌, ◌++◌, map, fold, find, Option, Some, None, IfSome, if◌then◌else◌}
 use Rattle.rx_text.specs.Role.{NamedRole}
 use Rattle.rx_text.specs.declared.place.Place.{Place}
 use Rattle.geom.specs.declared.layer.Layer.{Layer}

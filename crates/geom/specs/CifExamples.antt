@@ -1,5 +1,5 @@
 -- Small CIF texts, and what they draw or why they are refused.
-use Rattle.std.specs.Prelude.{ℤ, pos, negsuc, List, [], ◌∷◌, codes}
+use Rattle.std.specs.Prelude.{pos, negsuc, [], ◌∷◌, codes}
 use Rattle.rx_text.specs.declared.place.Place.TheVariants.{Text}
 use Rattle.geom.specs.declared.layer.Layer.TheVariants.{Metal}
 use Rattle.geom.specs.declared.cif_code.CifCode.TheVariants.{C3, C4, C6, C7, C11}
