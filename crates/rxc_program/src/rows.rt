@@ -4,6 +4,7 @@ use crate::status::{Code, Status};
 use rx_text::Place;
 
 /// The words and the input of a run, how it ends, and what the output and the log take.
+#[derive(Clone, Copy)]
 pub(crate) struct Row {
     pub(crate) words: &'static [&'static [u8]],
     pub(crate) input: Input,
@@ -13,6 +14,7 @@ pub(crate) struct Row {
 }
 
 /// An input.
+#[derive(Clone, Copy)]
 pub(crate) enum Input {
     /// These bytes.
     Text(&'static [u8]),
@@ -25,6 +27,7 @@ pub(crate) enum Input {
 }
 
 /// How a run ends.
+#[derive(Clone, Copy)]
 pub(crate) enum End {
     Done,
     /// The code, the line and the column.
@@ -35,6 +38,7 @@ pub(crate) enum End {
 }
 
 /// What the output is.
+#[derive(Clone, Copy)]
 pub(crate) enum Output {
     /// These bytes.
     Is(&'static [u8]),
@@ -81,7 +85,7 @@ const ONE_PADS: &[u8] = b"\nvdd 0\ngnd 1\nphi1 2\nphi2 3\nreset 4\nin x 5\nout z
 const SYMBOLS: &[u8] = b"line x;\nsymbol a = 1;\noutput z;\nexpr";
 
 /// Runs of `net`, and of words that are no command.
-pub(crate) const ROWS: [Row; 39] = [
+pub(crate) const ROWS: &[Row] = &[
     Row {
         words: &[b"net"],
         input: Input::Text(ONE),
@@ -384,7 +388,12 @@ pub(crate) const ROWS: [Row; 39] = [
     },
     Row {
         words: &[b"net"],
-        input: Input::Repeated(b"", b" ", 67_108_865, b""),
+        input: Input::Repeated(
+            b" ",
+            b"                                                                ",
+            1_048_576,
+            b"",
+        ),
         end: End::TooLong,
         output: NOTHING,
         log: b"rxc: I1 TooLong\n",
@@ -392,13 +401,14 @@ pub(crate) const ROWS: [Row; 39] = [
 ];
 
 /// Words and inputs of which no front is accepted, up to so many bytes before the end.
-pub(crate) const FRONTS: [(&[u8], Input, usize); 2] = [
+pub(crate) const FRONTS: &[(&[u8], Input, usize)] = &[
     (b"net", Input::Text(ONE), 2),
     (b"sim", Input::Behind(b"1\nchip\n", INVERTER), 0),
 ];
 
 /// A run in which each call of the source and of the sink fails in turn: its word and input, how many reads it makes, how many
 /// bytes the sink takes at most in a call, and how many writes there are then.
+#[derive(Clone, Copy)]
 pub(crate) struct Failing {
     pub(crate) word: &'static [u8],
     pub(crate) input: Input,
@@ -408,7 +418,7 @@ pub(crate) struct Failing {
 }
 
 /// The runs with failures: the second read finds the end, and there is no third; each line of `sim` is a piece of four bytes.
-pub(crate) const FAILING: [Failing; 7] = [
+pub(crate) const FAILING: &[Failing] = &[
     Failing {
         word: b"net",
         input: Input::Text(ONE),

@@ -7,7 +7,7 @@ pub(crate) const INVERTER: &[u8] =
     b"rxnet 1\nnets 7\nvdd 0\ngnd 1\nphi1 2\nphi2 3\nreset 4\nin x 5\nout z 6\npass 5 6 1\nload 6\nend\n";
 
 /// Runs of `sim`.
-pub(crate) const SIM_ROWS: [Row; 50] = [
+pub(crate) const SIM_ROWS: &[Row] = &[
     Row {
         words: &[b"sim"],
         input: Input::Compiled(b"1\n0\n1\nchip\n", ONE),

@@ -115,8 +115,8 @@ fn rows_come_out(rt: &impl Abort, alloc: Global, rows: &[Row]) -> Result<(), Fai
 
 #[test]
 fn runs_come_out(rt: HostRuntime) -> Result<(), Fail> {
-    rows_come_out(&rt, rt.alloc(), &ROWS)?;
-    rows_come_out(&rt, rt.alloc(), &SIM_ROWS)
+    rows_come_out(&rt, rt.alloc(), ROWS)?;
+    rows_come_out(&rt, rt.alloc(), SIM_ROWS)
 }
 
 /// The run is refused, and writes nothing.
@@ -128,8 +128,8 @@ fn is_refused(alloc: Global, word: &[u8], text: &[u8]) -> Result<bool, Fail> {
 #[test]
 fn fronts_are_refused(rt: HostRuntime) -> Result<(), Fail> {
     for (word, input, spared) in FRONTS {
-        let whole = bytes_of(rt.alloc(), &input)?;
-        for length in 0..whole.len().saturating_sub(spared) {
+        let whole = bytes_of(rt.alloc(), input)?;
+        for length in 0..whole.len().saturating_sub(*spared) {
             assert!(rt; is_refused(rt.alloc(), word, &whole[..length])?, "{length}");
         }
     }
@@ -202,7 +202,7 @@ fn writes_fail(rt: &impl Abort, alloc: Global, row: &Failing, text: &[u8]) -> Re
 
 #[test]
 fn failures_are_reported(rt: HostRuntime) -> Result<(), Fail> {
-    for row in FAILING.iter() {
+    for row in FAILING {
         let text = bytes_of(rt.alloc(), &row.input)?;
         reads_fail(&rt, rt.alloc(), row, &text)?;
         writes_fail(&rt, rt.alloc(), row, &text)?;
