@@ -2,6 +2,8 @@
 #![tactic(auto)]
 
 #[cfg(test)]
+mod cif_texts;
+#[cfg(test)]
 mod circuits;
 #[cfg(test)]
 mod drawings;
