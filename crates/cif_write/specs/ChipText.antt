@@ -13,7 +13,7 @@ use Rattle.geom.specs.Merged.{rank}
 abbrev pub pair_text : List ℕ → ℤ → ℤ → List ℕ → List ℕ
 pair_text before x y behind = before ++ signed_decimal x ++ codes " " ++ signed_decimal y ++ behind
 
--- `B LENGTH WIDTH X Y;` its sides and centre in hundredths of units, halves of which are halves of λ
+-- `B LENGTH WIDTH X Y;` by the sides and the centre, in halves of λ
 abbrev pub box_line : BoxShape → List ℕ
 box_line b =
     pair_text (codes "B ") (pos 2 *ℤ (b.x2 -ℤ b.x1)) (pos 2 *ℤ (b.y2 -ℤ b.y1)) (codes " ")

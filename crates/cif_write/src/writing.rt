@@ -305,14 +305,14 @@ fn units(lambda: i64) -> NumberText
     NumberText::of(200 * i128::from(lambda))
 }
 
-/// A side of a box in quarters of lambda, of which a scale of 100 makes units.
+/// A side of a box in halves of lambda, which the scale of 100 takes to units.
 fn side(from: i64, to: i64) -> NumberText
     ensures { result ≡ signed_decimal (pos 2 *ℤ (to -ℤ from)) }
 {
     NumberText::of(2 * (i128::from(to) - i128::from(from)))
 }
 
-/// The middle of a side, likewise.
+/// The middle of a side, in halves of lambda too.
 fn middle(from: i64, to: i64) -> NumberText
     ensures { result ≡ signed_decimal (from +ℤ to) }
 {
