@@ -7,7 +7,7 @@ ghost use Rattle.nmos_model.specs.Pads.{AreNamed};
 use crate::circuits::{fault_text, network_text};
 use crate::laid::laid;
 use crate::shapes::{shapes, text_of};
-use geom::Label;
+use geom::{Box2, Label};
 use nmos_model::extract_plain;
 use nmos_model::laws::drawings_are_networks_or_refused;
 use rx_text::PadName;
@@ -191,7 +191,7 @@ fn agreed(alloc: Global, one: String, other: &String) -> Result<String, Fail> {
 
 /// What the grid comes to with these labels, by its squares, and by its tiles too where its squares stand for a network.
 fn outcome(alloc: Global, grid: &Grid, labels: &[Label]) -> Result<String, Fail> {
-    drawings_are_networks_or_refused();
+    drawings_are_networks_or_refused::<Vec<Box2>>();
     see_names(labels);
     let boxes = grid.boxes(alloc)?;
     match extract_plain(alloc, &boxes, labels) {
