@@ -1,0 +1,17 @@
+pub mod Mapped
+pub mod Crossings
+pub mod Found
+pub mod Shifts
+pub mod Moves
+pub mod Lists
+pub mod MovedSheets
+pub mod Inserted
+pub mod Inside
+pub mod Away
+pub mod Joined
+pub mod Bits
+pub mod Stretches
+pub mod LinePaths
+pub mod Nodes
+pub mod Laid
+pub mod Walks

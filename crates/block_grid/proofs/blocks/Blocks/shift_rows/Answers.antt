@@ -1,0 +1,36 @@
+use Rattle.std.proofs.Common.{◌≡◌, map, ap, arith}
+use Rattle.std.proofs.lemmas.List.{length-map}
+use Rattle.block_grid.specs.Sheets.{Sheet}
+use Rattle.block_grid.specs.Changes.{node_moved, edge_moved, rows_shifted}
+use Rattle.block_grid.proofs.Inside.{rows_below, written_back}
+use Rattle.block_grid.proofs.Inserted.{with_rows_sheet}
+use Rattle.block_grid.proofs.blocks.Blocks.shift_rows.Goals as goal
+
+pub shift_rows-requires : goal.shift_rows-requires
+shift_rows-requires c =
+    let same : c.self.inside.rows ≡ c.args.self.now.rows = ap (λ (s : Sheet). s.rows) c.self.view_is in
+    rw c.deref_mut.ensures.value (λ k n lt. let on = c.self.invariant.nodes_inside k n lt in omega arith)
+
+pub shift_all_rows-requires : goal.shift_all_rows-requires
+shift_all_rows-requires c =
+    let same : c.self.inside.rows ≡ c.args.self.now.rows = ap (λ (s : Sheet). s.rows) c.self.view_is in
+    rw c.deref_mut-2.ensures.value (λ k e lt. rows_below _ _ c.args.by c.self.invariant (c.self.invariant.drawn k e lt) (omega arith))
+
+pub invariant_of-self : goal.invariant_of-self
+invariant_of-self c =
+    let same : c.self.inside.rows ≡ c.args.self.now.rows = ap (λ (s : Sheet). s.rows) c.self.view_is in
+    rw (
+      written_back c.self.inside.nodes.len c.shift_rows.new.nodes c.self.inside.nodes.items (map (node_moved
+          (rows_shifted c.args.at c.args.by)) c.self.inside.nodes.items) (cc) (omega (
+            arith,
+            length-map c.self.inside.nodes.items (node_moved (rows_shifted c.args.at c.args.by)),
+            c.self.inside.nodes.ok.0,
+          )),
+      written_back c.self.inside.edges.len c.shift_all_rows.new.edges c.self.inside.edges.items (map (edge_moved
+          (rows_shifted c.args.at c.args.by)) c.self.inside.edges.items) (cc) (omega (
+            arith,
+            length-map c.self.inside.edges.items (edge_moved (rows_shifted c.args.at c.args.by)),
+            c.self.inside.edges.ok.0,
+          )),
+    )
+    (with_rows_sheet c.args.at c.args.by _ c.self.invariant (omega arith))

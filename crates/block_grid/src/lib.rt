@@ -1,0 +1,13 @@
+//! Blocks in rows and columns: nodes, and the edges that are drawn between them.
+#![tactic(auto)]
+
+pub mod blocks;
+pub mod edge;
+pub mod kind;
+pub mod no_memory;
+pub mod standing;
+mod stretch;
+
+pub use blocks::Blocks;
+pub use kind::{BlockKind, Turn};
+pub use no_memory::NoMemory;
