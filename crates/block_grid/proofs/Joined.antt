@@ -59,7 +59,7 @@ use Rattle.block_grid.specs.Sheets.{
   Sheet,
   node_on,
   stands_at,
-  Passes,
+  GoesThrough,
   EndsOn,
   AreClear,
   IsOnSheet,

@@ -61,7 +61,7 @@ use Rattle.block_grid.specs.Sheets.{
   node_on,
   stands_at,
   block_at,
-  Passes,
+  GoesThrough,
   EndsOn,
   AreClear,
   IsOnSheet,
@@ -181,7 +181,7 @@ module _ (s : Sheet) (e : DrawnEdge) (sheet : IsSheet s) (may : MayDraw s e) whe
   over r c not_start not_finish some = (facts r c).over s may.free not_start (λ at. not_finish (rw
       (last_pushed e.start e.finish e.turns) at at)) some
 
-  passes_new : (r c : ℕ) → node_on s.nodes r c ≡ None → Passes e r c
+  passes_new : (r c : ℕ) → node_on s.nodes r c ≡ None → GoesThrough e r c
   passes_new r c none =
       let k : LineFacts e.start (line_of e) r c = facts r c in
       record {
@@ -325,7 +325,7 @@ module _ (s : Sheet) (e : DrawnEdge) (sheet : IsSheet s) (may : MayDraw s e) whe
                 | inr v ↦
                     let w : west_of old r c ≡ 0 = no_west s r c k d lt (vertical_block s r c v.0).1.0 in
                     let x : east_of old r c ≡ 0 = no_west s r (c + 1) k d lt (vertical_block s r c v.0).1.1 in
-                    let pass : Passes old r c = drawn.passes r c (vertical_block s r c v.0).0 in
+                    let pass : GoesThrough old r c = drawn.passes r c (vertical_block s r c v.0).0 in
                     let n : north_of old r c ≤ 1 = pass.north in
                     let m : south_of old r c ≤ 1 = pass.south in omega arith
               ]

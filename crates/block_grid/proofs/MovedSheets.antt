@@ -55,14 +55,14 @@ use Rattle.block_grid.specs.Sheets.{
   Sheet,
   node_on,
   stands_at,
-  Passes,
+  GoesThrough,
   EndsOn,
   AreClear,
   IsOnSheet,
   IsDrawn,
   IsSheet,
 }
-use Rattle.block_grid.specs.Changes.{node_moved, edge_moved, moved}
+use Rattle.block_grid.specs.Changes.{node_moved, edge_moved, sheet_moved}
 use Rattle.block_grid.proofs.Lists.{AllPairs-map}
 use Rattle.block_grid.proofs.Moves.{
   SameSides,
@@ -113,7 +113,7 @@ module _ (s : Sheet) (h : BlockPlace → BlockPlace) (rows' cols' : ℕ)
   col_back p q e = eqb-true _ _ (sym (same_col p q) ∙ eq-eqb _ _ e)
 
   passes_moved : (e : DrawnEdge) → IsDrawn s e → (r c : ℕ) → Origin h r c → node_on (map (node_moved h) s.nodes) r c ≡ None →
-      Passes (edge_moved h e) r c
+      GoesThrough (edge_moved h e) r c
   passes_moved e d r c (kept r0 c0 image same) none =
       passes_kept (edge_moved h e) e r c r0 c0 (same e) (d.passes r0 c0 (none_before (node_moved h) _ (sym
       (node_on_moved h s.nodes r c r0 c0 image) ∙ none)))
@@ -144,18 +144,18 @@ module _ (s : Sheet) (h : BlockPlace → BlockPlace) (rows' cols' : ℕ)
     crossing = λ r c. (clear_at e f clear r c (origin r c)).2;
   }
 
-  drawn_moved : (e : DrawnEdge) → IsDrawn s e → IsDrawn (moved h rows' cols' s) (edge_moved h e)
+  drawn_moved : (e : DrawnEdge) → IsDrawn s e → IsDrawn (sheet_moved h rows' cols' s) (edge_moved h e)
   drawn_moved e d = record {
     ends_differ = d.ends_differ;
     starts = stands_moved h s.nodes e.parent ∙ ap (option_map h) d.starts;
     finishes = stands_moved h s.nodes e.child ∙ ap (option_map h) d.finishes;
-    inside = All-map (IsOnSheet (moved h rows' cols' s)) h e.turns (λ k p lt. inside _ (d.inside k p lt));
+    inside = All-map (IsOnSheet (sheet_moved h rows' cols' s)) h e.turns (λ k p lt. inside _ (d.inside k p lt));
     straight = rw (line_moved h e, straight_moved h same_row same_col e.start (line_of e)) d.straight;
     passes = λ r c. passes_moved e d r c (origin r c);
     ends = λ r c. ends_moved e d r c (origin r c);
   }
 
-  pub moved_sheet : IsSheet s → 1 ≤ rows' → 1 ≤ cols' → rows' ≤ 2 ^ 20 → cols' ≤ 2 ^ 20 → IsSheet (moved h rows' cols' s)
+  pub moved_sheet : IsSheet s → 1 ≤ rows' → 1 ≤ cols' → rows' ≤ 2 ^ 20 → cols' ≤ 2 ^ 20 → IsSheet (sheet_moved h rows' cols' s)
   moved_sheet sheet some_rows some_cols few_rows few_cols = record {
     some_rows = some_rows;
     some_cols = some_cols;
@@ -166,6 +166,6 @@ module _ (s : Sheet) (h : BlockPlace → BlockPlace) (rows' cols' : ℕ)
     nodes_once = AllPairs-map (λ (m n : Standing). m.node ≢ n.node) (node_moved h) s.nodes sheet.nodes_once;
     places_once = AllPairs-map (λ (m n : Standing). m.row ≡ n.row → m.col ≢ n.col) (node_moved h) s.nodes
         (λ i j n lt in_list rows cols. sheet.places_once i j n lt in_list (row_back _ _ rows) (col_back _ _ cols));
-    drawn = All-map (IsDrawn (moved h rows' cols' s)) (edge_moved h) s.edges (λ k e lt. drawn_moved _ (sheet.drawn k e lt));
+    drawn = All-map (IsDrawn (sheet_moved h rows' cols' s)) (edge_moved h) s.edges (λ k e lt. drawn_moved _ (sheet.drawn k e lt));
     clear = AllPairs-map AreClear (edge_moved h) s.edges (λ i j e lt in_list. clear_moved _ _ (sheet.clear i j e lt in_list));
   }

@@ -55,14 +55,14 @@ use Rattle.block_grid.specs.Sheets.{
   Sheet,
   node_on,
   stands_at,
-  Passes,
+  GoesThrough,
   EndsOn,
   AreClear,
   IsOnSheet,
   IsDrawn,
   IsSheet,
 }
-use Rattle.block_grid.specs.Changes.{node_moved, edge_moved, moved}
+use Rattle.block_grid.specs.Changes.{node_moved, edge_moved, sheet_moved}
 use Rattle.block_grid.proofs.Crossings.{crossings_moved, crossings_none}
 use Rattle.block_grid.proofs.Found.{find-map, find-none}
 
@@ -136,7 +136,7 @@ crossed_once s e d r c =
     small true k h = omega arith
     small false k h = omega arith
 
-pub passes_kept : (e' e : DrawnEdge) (r c r0 c0 : ℕ) → SameSides e' e r c r0 c0 → Passes e r0 c0 → Passes e' r c
+pub passes_kept : (e' e : DrawnEdge) (r c r0 c0 : ℕ) → SameSides e' e r c r0 c0 → GoesThrough e r0 c0 → GoesThrough e' r c
 passes_kept e' e r c r0 c0 s p = record {
   north = rw s.north p.north;
   south = rw s.south p.south;
@@ -154,7 +154,7 @@ ends_kept h v e r c r0 c0 s p = record {
   east = s.east ∙ p.east;
 }
 
-pub passes_upright : (e : DrawnEdge) (r c k : ℕ) → k ≤ 1 → IsUpright e r c k → Passes e r c
+pub passes_upright : (e : DrawnEdge) (r c k : ℕ) → k ≤ 1 → IsUpright e r c k → GoesThrough e r c
 passes_upright e r c k one s = record {
   north = rw s.north one;
   south = rw s.south one;
@@ -163,7 +163,7 @@ passes_upright e r c k one s = record {
   leaves = rw (s.north, s.south, s.west, s.east) (λ h. omega arith);
 }
 
-pub passes_level : (e : DrawnEdge) (r c k : ℕ) → k ≤ 1 → IsLevelled e r c k → Passes e r c
+pub passes_level : (e : DrawnEdge) (r c k : ℕ) → k ≤ 1 → IsLevelled e r c k → GoesThrough e r c
 passes_level e r c k one s = record {
   north = rw s.north (omega arith);
   south = rw s.south (omega arith);

@@ -25,15 +25,15 @@ abbrev pub edge_moved : (BlockPlace → BlockPlace) → DrawnEdge → DrawnEdge
 edge_moved h e = record e { start = h e.start; turns = map h e.turns; finish = h e.finish }
 
 -- the sheet with its nodes and edges moved, and with other numbers of rows and columns
-abbrev pub moved : (BlockPlace → BlockPlace) → ℕ → ℕ → Sheet → Sheet
-moved h rows cols s = record { rows = rows; cols = cols; nodes = map (node_moved h) s.nodes; edges = map (edge_moved h) s.edges }
+abbrev pub sheet_moved : (BlockPlace → BlockPlace) → ℕ → ℕ → Sheet → Sheet
+sheet_moved h rows cols s = record { rows = rows; cols = cols; nodes = map (node_moved h) s.nodes; edges = map (edge_moved h) s.edges }
 
 -- the sheet with `by` further rows before row `at`, or `by` further columns before column `at`
 abbrev pub with_rows : Sheet → ℕ → ℕ → Sheet
-with_rows s at by = moved (rows_shifted at by) (s.rows + by) s.cols s
+with_rows s at by = sheet_moved (rows_shifted at by) (s.rows + by) s.cols s
 
 abbrev pub with_cols : Sheet → ℕ → ℕ → Sheet
-with_cols s at by = moved (cols_shifted at by) s.rows (s.cols + by) s
+with_cols s at by = sheet_moved (cols_shifted at by) s.rows (s.cols + by) s
 
 -- One sheet with another at its east side, or at its south side. The smaller one is filled up with empty blocks.
 abbrev pub side_by_side : Sheet → Sheet → Sheet

@@ -115,7 +115,7 @@ abbrev pub IsInOpen : Sheet → ℕ → Type 0
 IsInOpen s v = All (λ e. e.child ≢ v) s.edges
 
 -- An edge that comes to a place leaves it again, by another side.
-pub record Passes (e : DrawnEdge) (r c : ℕ) : Type 0 where
+pub record GoesThrough (e : DrawnEdge) (r c : ℕ) : Type 0 where
   pub north : north_of e r c ≤ 1
   pub south : south_of e r c ≤ 1
   pub west : west_of e r c ≤ 1
@@ -146,7 +146,7 @@ pub record IsDrawn (s : Sheet) (e : DrawnEdge) : Type 0 where
   pub finishes : stands_at s.nodes e.child ≡ Some e.finish
   pub inside : All (IsOnSheet s) e.turns
   pub straight : IsTrue (is_straight e.start (line_of e))
-  pub passes : (r c : ℕ) → ForNone (node_on s.nodes r c) (Passes e r c)
+  pub passes : (r c : ℕ) → ForNone (node_on s.nodes r c) (GoesThrough e r c)
   pub ends : (r c : ℕ) → ForSome (node_on s.nodes r c) (λ node. EndsOn node.node e r c)
 
 -- Nodes stand at places of their own, each once, and each drawn edge is one path between its nodes' ports.

@@ -7,8 +7,8 @@ ghost use Rattle.block_grid.specs.Sheets.{IsSheet, block_at, is_crossed_north, i
 
 use crate::edge::{self, Edge};
 use crate::kind::{BlockKind, Turn};
-use crate::no_memory::NoMemory;
 use crate::standing::{self, Standing};
+use rx_text::NoMemory;
 use std::alloc::Global;
 use std::marker::Model;
 

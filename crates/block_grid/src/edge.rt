@@ -6,8 +6,8 @@ ghost use Rattle.block_grid.specs.Lines.{row_of, col_of, stretch_crossings};
 ghost use Rattle.block_grid.specs.Sheets.{DrawnEdge, north_of, west_of};
 ghost use Rattle.block_grid.specs.Changes.{StaysBelow, edge_moved, rows_shifted, cols_shifted};
 
-use crate::no_memory::NoMemory;
 use crate::stretch::{separates, shifted};
+use rx_text::NoMemory;
 use std::alloc::Global;
 use std::marker::Model;
 

@@ -4,10 +4,9 @@
 pub mod blocks;
 pub mod edge;
 pub mod kind;
-pub mod no_memory;
 pub mod standing;
 mod stretch;
 
 pub use blocks::Blocks;
 pub use kind::{BlockKind, Turn};
-pub use no_memory::NoMemory;
+pub use rx_text::NoMemory;

@@ -6,8 +6,8 @@ ghost use Rattle.block_grid.specs.Changes.{IsSingle, node_moved, rows_shifted, c
 ghost use Rattle.block_grid.specs.Sheets.{node_kind, node_on, stands_at};
 
 use crate::kind::BlockKind;
-use crate::no_memory::NoMemory;
 use crate::stretch::shifted;
+use rx_text::NoMemory;
 use std::alloc::Global;
 
 /// A node, which may be the frame, and its row and column.
