@@ -1,65 +1,12 @@
 -- Places to which nothing of a sheet comes.
-use Rattle.std.proofs.Common.{
-  ◌≡◌,
-  ◌≢◌,
-  ℕ,
-  zero,
-  suc,
-  ◌+◌,
-  ◌<◌,
-  ◌≤◌,
-  ◌⊎◌,
-  inl,
-  inr,
-  Bool,
-  true,
-  false,
-  not,
-  nat_lt,
-  nat_eq,
-  cond,
-  ◌&&◌,
-  Option,
-  Some,
-  None,
-  List,
-  [],
-  ◌∷◌,
-  ◌++◌,
-  length,
-  get_or,
-  map,
-  All,
-  refl,
-  ap,
-  sym,
-  ◌∙◌,
-  subst,
-  arith,
-  rules,
-}
+use Rattle.std.proofs.Common.{◌≡◌, ℕ, ◌+◌, ◌<◌, ◌≤◌, Bool, true, false, nat_lt, nat_eq, cond, ◌&&◌, None, List, [], ◌∷◌, get_or, All, refl, arith}
 use Rattle.std.specs.List.{find}
-use Rattle.std.proofs.lemmas.Bool.{eqb-true, lt-ltb}
+use Rattle.std.proofs.lemmas.Bool.{lt-ltb}
 use Rattle.std.proofs.lemmas.Bool.Decides.{nat_tests}
 use Rattle.std.proofs.lemmas.List.Elements.{All-head, All-tail, All-cons, All-push, All-map}
-use Rattle.block_grid.specs.declared.standing.Standing.{Standing}
-use Rattle.block_grid.specs.Lines.{BlockPlace, row_of, col_of, separates, crossings, stretch_crossings}
-use Rattle.block_grid.specs.Sheets.{
-  DrawnEdge,
-  line_of,
-  north_of,
-  south_of,
-  west_of,
-  east_of,
-  sides_of,
-  Sheet,
-  node_on,
-  stands_at,
-  IsOnSheet,
-  IsDrawn,
-  IsSheet,
-}
-use Rattle.block_grid.specs.Changes.{rows_shifted, cols_shifted, node_moved, edge_moved, with_rows, with_cols}
+use Rattle.block_grid.specs.Lines.{BlockPlace, row_of, col_of, crossings, stretch_crossings}
+use Rattle.block_grid.specs.Sheets.{DrawnEdge, line_of, north_of, west_of, sides_of, Sheet, node_on, IsOnSheet, IsDrawn, IsSheet}
+use Rattle.block_grid.specs.Changes.{rows_shifted, cols_shifted, edge_moved, with_rows, with_cols}
 use Rattle.block_grid.proofs.Inside.{starts_inside, finishes_inside}
 use Rattle.block_grid.proofs.Moves.{IsUpright, IsLevelled, node_on_none}
 use Rattle.block_grid.proofs.Inserted.{rows_new, cols_new}

@@ -1,38 +1,8 @@
 -- Where one straight stretch crosses the borders of a place.
-use Rattle.std.proofs.Common.{
-  ◌≡◌,
-  ◌≢◌,
-  ℕ,
-  ◌+◌,
-  ◌-◌,
-  ◌<◌,
-  ◌≤◌,
-  ◌⊎◌,
-  inl,
-  inr,
-  Bool,
-  true,
-  false,
-  not,
-  IsTrue,
-  nat_lt,
-  nat_eq,
-  cond,
-  ◌&&◌,
-  ◌||◌,
-  min,
-  max,
-  refl,
-  ap,
-  sym,
-  ◌∙◌,
-  subst,
-  arith,
-  rules,
-}
-use Rattle.std.proofs.lemmas.Bool.{eqb-true, eqb-false, eq-eqb}
+use Rattle.std.proofs.Common.{◌≡◌, ◌≢◌, ℕ, ◌+◌, ◌<◌, ◌≤◌, ◌⊎◌, inl, inr, Bool, true, false, not, nat_lt, nat_eq, cond, ◌&&◌, min, max, refl, arith}
+use Rattle.std.proofs.lemmas.Bool.{eq-eqb}
 use Rattle.std.proofs.lemmas.Bool.Decides.{nat_tests}
-use Rattle.block_grid.specs.Lines.{BlockPlace, row_of, col_of, separates, stretch_crossings, IsOnStretch}
+use Rattle.block_grid.specs.Lines.{BlockPlace, separates, stretch_crossings}
 
 pub bit : ℕ → ℕ → ℕ → ℕ
 bit a b r = cond (separates a b r) 1 0

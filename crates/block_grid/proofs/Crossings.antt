@@ -1,30 +1,6 @@
 -- Crossings of lines whose places move.
-use Rattle.std.proofs.Common.{
-  ◌≡◌,
-  ℕ,
-  ◌+◌,
-  ◌<◌,
-  ◌≤◌,
-  Bool,
-  true,
-  false,
-  nat_lt,
-  nat_eq,
-  cond,
-  ◌&&◌,
-  List,
-  [],
-  ◌∷◌,
-  ◌++◌,
-  map,
-  refl,
-  ap,
-  sym,
-  ◌∙◌,
-  arith,
-  rules,
-}
-use Rattle.block_grid.specs.Lines.{BlockPlace, separates, stretch_crossings, crossings}
+use Rattle.std.proofs.Common.{◌≡◌, ℕ, false, nat_lt, nat_eq, List, [], ◌∷◌, map, refl}
+use Rattle.block_grid.specs.Lines.{BlockPlace, stretch_crossings, crossings}
 
 module _ (h : BlockPlace → BlockPlace) (f g : BlockPlace → ℕ) (a x b y : ℕ) (before : (q : BlockPlace) →
     nat_lt (f (h q)) a ≡ nat_lt (f q) b) (on : (q : BlockPlace) → nat_eq (g (h q)) x ≡ nat_eq (g q) y) where

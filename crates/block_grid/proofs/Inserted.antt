@@ -1,50 +1,9 @@
 -- Where the places of a sheet come from once rows or columns stand before one of its lines.
-use Rattle.std.proofs.Common.{
-  ◌≡◌,
-  ◌≢◌,
-  ℕ,
-  ◌+◌,
-  ◌-◌,
-  ◌<◌,
-  ◌≤◌,
-  ◌^◌,
-  ◌⊎◌,
-  inl,
-  inr,
-  Bool,
-  true,
-  false,
-  nat_lt,
-  nat_eq,
-  cond,
-  ◌&&◌,
-  Option,
-  Some,
-  None,
-  List,
-  [],
-  ◌∷◌,
-  ◌++◌,
-  length,
-  get_or,
-  take,
-  drop,
-  map,
-  All,
-  refl,
-  ap,
-  sym,
-  ◌∙◌,
-  subst,
-  arith,
-  rules,
-}
-use Rattle.std.specs.Option.{option_map}
+use Rattle.std.proofs.Common.{◌≡◌, ℕ, ◌+◌, ◌-◌, ◌<◌, ◌≤◌, ◌^◌, ◌⊎◌, inl, inr, Bool, true, false, nat_lt, nat_eq, ◌&&◌, refl, arith}
 use Rattle.std.proofs.lemmas.Bool.Decides.{nat_tests}
-use Rattle.block_grid.specs.declared.standing.Standing.{Standing}
-use Rattle.block_grid.specs.Lines.{BlockPlace, row_of, col_of}
-use Rattle.block_grid.specs.Sheets.{DrawnEdge, line_of, north_of, south_of, west_of, east_of, Sheet, node_on, stands_at, IsOnSheet, IsDrawn, IsSheet}
-use Rattle.block_grid.specs.Changes.{shifted, rows_shifted, cols_shifted, edge_moved, sheet_moved, with_rows, with_cols}
+use Rattle.block_grid.specs.Lines.{row_of, col_of}
+use Rattle.block_grid.specs.Sheets.{DrawnEdge, line_of, north_of, west_of, Sheet, IsSheet}
+use Rattle.block_grid.specs.Changes.{shifted, rows_shifted, cols_shifted, edge_moved, with_rows, with_cols}
 use Rattle.block_grid.proofs.Crossings.{crossings_moved, crossings_none}
 use Rattle.block_grid.proofs.Shifts.{before_kept, before_doubled, before_later, on_kept, on_new, on_moved, same_shifted}
 use Rattle.block_grid.proofs.Moves.{SameSides, IsUpright, IsLevelled, Origin, kept, upright, level, line_moved}

@@ -1,44 +1,12 @@
 -- The places of nodes and edges lie on their sheet.
-use Rattle.std.proofs.Common.{
-  ◌≡◌,
-  ℕ,
-  ◌+◌,
-  ◌<◌,
-  ◌≤◌,
-  ◌^◌,
-  Bool,
-  true,
-  false,
-  nat_eq,
-  cond,
-  Option,
-  Some,
-  None,
-  List,
-  [],
-  ◌∷◌,
-  ◌++◌,
-  length,
-  get_or,
-  take,
-  drop,
-  map,
-  All,
-  refl,
-  ap,
-  sym,
-  ◌∙◌,
-  subst,
-  arith,
-  rules,
-}
+use Rattle.std.proofs.Common.{◌≡◌, ℕ, ◌+◌, ◌<◌, ◌≤◌, ◌^◌, true, false, nat_eq, cond, Some, List, [], ◌∷◌, ◌++◌, length, get_or, take, drop, All, subst, arith}
 use Rattle.std.specs.List.{find}
 use Rattle.std.specs.Option.{option_map}
-use Rattle.std.proofs.lemmas.List.Elements.{All-head, All-tail, All-cons, All-push}
+use Rattle.std.proofs.lemmas.List.Elements.{All-head, All-tail}
 use Rattle.std.proofs.Math.Seq.{take-append_seam}
 use Rattle.block_grid.specs.declared.standing.Standing.{Standing}
 use Rattle.block_grid.specs.Lines.{BlockPlace, row_of, col_of}
-use Rattle.block_grid.specs.Sheets.{DrawnEdge, line_of, Sheet, stands_at, IsOnSheet, IsDrawn, IsSheet}
+use Rattle.block_grid.specs.Sheets.{DrawnEdge, Sheet, stands_at, IsOnSheet, IsDrawn, IsSheet}
 use Rattle.block_grid.specs.Changes.{StaysBelow}
 
 -- a fact of all nodes at the one that stands at the place

@@ -1,74 +1,16 @@
 -- Two sheets that keep out of each other's way make one sheet.
-use Rattle.std.proofs.Common.{
-  ◌≡◌,
-  ◌≢◌,
-  ℕ,
-  zero,
-  suc,
-  ◌+◌,
-  ◌<◌,
-  ◌≤◌,
-  ◌^◌,
-  ◌⊎◌,
-  inl,
-  inr,
-  Bool,
-  true,
-  false,
-  not,
-  nat_lt,
-  nat_eq,
-  cond,
-  ◌&&◌,
-  Option,
-  Some,
-  None,
-  List,
-  [],
-  ◌∷◌,
-  ◌++◌,
-  length,
-  get_or,
-  map,
-  max,
-  All,
-  refl,
-  ap,
-  sym,
-  ◌∙◌,
-  subst,
-  arith,
-  rules,
-}
-use Rattle.std.specs.List.{AllPairs, find}
+use Rattle.std.proofs.Common.{◌≡◌, ◌≢◌, ℕ, zero, suc, ◌+◌, ◌<◌, ◌≤◌, ◌^◌, ◌⊎◌, inl, inr, Bool, true, false, nat_lt, nat_eq, cond, ◌&&◌, Option, Some, None, List, [], ◌∷◌, ◌++◌, length, get_or, map, max, All, refl, ap, sym, ◌∙◌, subst, arith}
+use Rattle.std.specs.List.{find}
 use Rattle.std.specs.Option.{option_map, option_or}
 use Rattle.std.proofs.lemmas.Bool.{eqb-true, eq-eqb}
 use Rattle.std.proofs.lemmas.Bool.Decides.{nat_tests}
 use Rattle.std.proofs.lemmas.List.Folds.{find-append}
 use Rattle.std.proofs.lemmas.List.Elements.{All-head, All-tail, All-append, All-map}
 use Rattle.block_grid.specs.declared.standing.Standing.{Standing}
-use Rattle.block_grid.specs.Lines.{BlockPlace, row_of, col_of}
-use Rattle.block_grid.specs.Sheets.{
-  DrawnEdge,
-  line_of,
-  north_of,
-  south_of,
-  west_of,
-  east_of,
-  sides_of,
-  Sheet,
-  node_on,
-  stands_at,
-  GoesThrough,
-  EndsOn,
-  AreClear,
-  IsOnSheet,
-  IsDrawn,
-  IsSheet,
-}
+use Rattle.block_grid.specs.Lines.{BlockPlace}
+use Rattle.block_grid.specs.Sheets.{DrawnEdge, north_of, south_of, west_of, sides_of, Sheet, node_on, stands_at, EndsOn, AreClear, IsDrawn, IsSheet}
 use Rattle.block_grid.specs.Changes.{node_moved, rows_shifted, cols_shifted, with_rows, with_cols, side_by_side, stacked}
 use Rattle.block_grid.proofs.Lists.{AllPairs-append}
-use Rattle.block_grid.proofs.Inserted.{with_rows_sheet, with_cols_sheet}
 use Rattle.block_grid.proofs.Away.{Away, away_south, away_east, away_rows, away_cols}
 
 stands-append : (xs ys : List Standing) (v : ℕ) → stands_at (xs ++ ys) v ≡ option_or (stands_at xs v) (stands_at ys v)

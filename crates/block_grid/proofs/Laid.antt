@@ -1,74 +1,13 @@
 -- A sheet with one more edge, drawn along a free line, is a sheet.
-use Rattle.std.proofs.Common.{
-  ◌≡◌,
-  ◌≢◌,
-  ℕ,
-  zero,
-  suc,
-  ◌+◌,
-  ◌<◌,
-  ◌≤◌,
-  ◌⊎◌,
-  inl,
-  inr,
-  Bool,
-  true,
-  false,
-  not,
-  IsTrue,
-  nat_lt,
-  nat_eq,
-  cond,
-  ◌&&◌,
-  min,
-  max,
-  Option,
-  Some,
-  None,
-  List,
-  [],
-  ◌∷◌,
-  ◌++◌,
-  length,
-  get_or,
-  All,
-  refl,
-  ap,
-  sym,
-  ◌∙◌,
-  subst,
-  arith,
-  rules,
-}
-use Rattle.std.specs.List.{AllPairs}
+use Rattle.std.proofs.Common.{◌≡◌, ◌≢◌, ℕ, ◌+◌, ◌<◌, ◌≤◌, inl, inr, Bool, true, false, not, nat_eq, cond, ◌&&◌, Some, None, List, [], ◌∷◌, ◌++◌, length, get_or, refl, sym, ◌∙◌, subst, arith}
 use Rattle.std.proofs.lemmas.Bool.{eq-eqb}
 use Rattle.std.proofs.lemmas.Bool.Decides.{nat_tests}
-use Rattle.std.proofs.lemmas.List.Elements.{All-append, All-nil, All-cons, All-push}
+use Rattle.std.proofs.lemmas.List.Elements.{All-push}
 use Rattle.std.proofs.lemmas.List.Quantifiers.{all_pairs_push}
 use Rattle.block_grid.specs.declared.standing.Standing.{Standing}
-use Rattle.block_grid.specs.declared.kind.BlockKind.{BlockKind}
-use Rattle.block_grid.specs.declared.kind.BlockKind.TheVariants.{Empty, Horizontal, Vertical}
-use Rattle.block_grid.specs.Lines.{BlockPlace, row_of, col_of, norths, wests, is_straight, IsOnStretch}
-use Rattle.block_grid.specs.Sheets.{
-  DrawnEdge,
-  line_of,
-  north_of,
-  south_of,
-  west_of,
-  east_of,
-  sides_of,
-  Sheet,
-  node_on,
-  stands_at,
-  block_at,
-  GoesThrough,
-  EndsOn,
-  AreClear,
-  IsOnSheet,
-  IsDrawn,
-  IsSheet,
-}
-use Rattle.block_grid.specs.Laying.{IsOnLine, NeverReturns, IsFreeLine, LeavesBy, EntersFromNorth, MayDraw, with_edge}
+use Rattle.block_grid.specs.Lines.{BlockPlace, row_of, col_of, norths, wests}
+use Rattle.block_grid.specs.Sheets.{DrawnEdge, line_of, north_of, south_of, west_of, east_of, sides_of, Sheet, node_on, GoesThrough, EndsOn, AreClear, IsDrawn, IsSheet}
+use Rattle.block_grid.specs.Laying.{IsOnLine, NeverReturns, LeavesBy, EntersFromNorth, MayDraw, with_edge}
 use Rattle.block_grid.proofs.Bits.{bit, BitFacts, bit_facts, along_on}
 use Rattle.block_grid.proofs.Stretches.{north_by, west_by, IsAt}
 use Rattle.block_grid.proofs.LinePaths.{sides_along, last_of, last_on, GoesOver, LineFacts, line_facts, none_at, at_or_not, is_on_stretch_start}

@@ -15,3 +15,5 @@ pub mod LinePaths
 pub mod Nodes
 pub mod Laid
 pub mod Walks
+pub mod Lengthened
+pub mod Uncrossed

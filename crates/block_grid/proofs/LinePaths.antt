@@ -1,46 +1,10 @@
 -- A line that never returns to itself comes to each place but its ends by one side and leaves it by another.
-use Rattle.std.proofs.Common.{
-  ◌≡◌,
-  ◌≢◌,
-  ℕ,
-  ◌+◌,
-  ◌-◌,
-  ◌<◌,
-  ◌≤◌,
-  ◌⊎◌,
-  inl,
-  inr,
-  Bool,
-  true,
-  false,
-  not,
-  IsTrue,
-  nat_lt,
-  nat_eq,
-  ◌==◌,
-  cond,
-  ◌&&◌,
-  ◌||◌,
-  min,
-  max,
-  List,
-  [],
-  ◌∷◌,
-  ◌++◌,
-  refl,
-  ap,
-  sym,
-  ◌∙◌,
-  subst,
-  arith,
-  rules,
-}
+use Rattle.std.proofs.Common.{◌≡◌, ◌≢◌, ℕ, ◌+◌, ◌-◌, ◌<◌, ◌≤◌, ◌⊎◌, inl, inr, Bool, true, false, IsTrue, nat_lt, nat_eq, ◌&&◌, List, [], ◌∷◌, refl, sym, ◌∙◌, arith, rules}
 use Rattle.std.proofs.lemmas.Bool.Decides.{nat_tests}
-use Rattle.block_grid.specs.declared.kind.BlockKind.{BlockKind}
 use Rattle.block_grid.specs.declared.kind.BlockKind.TheVariants.{Empty, Horizontal, Vertical}
-use Rattle.block_grid.specs.Lines.{BlockPlace, row_of, col_of, crossings, norths, wests, is_straight, IsOnStretch}
+use Rattle.block_grid.specs.Lines.{BlockPlace, row_of, col_of, norths, wests, is_straight, IsOnStretch}
 use Rattle.block_grid.specs.Sheets.{Sheet, block_at}
-use Rattle.block_grid.specs.Laying.{IsOnLine, NeverReturns, MayPass, IsFreeBetween, IsFreeLine}
+use Rattle.block_grid.specs.Laying.{IsOnLine, NeverReturns, IsFreeBetween, IsFreeLine}
 use Rattle.block_grid.proofs.Stretches.{north_by, west_by, sides_by, IsAt, StretchFacts, stretch_facts}
 
 abbrev pub sides_along : BlockPlace → List BlockPlace → ℕ → ℕ → ℕ

@@ -1,8 +1,8 @@
 -- Pairs of elements of lists.
-use Rattle.std.proofs.Common.{◌≡◌, ℕ, zero, suc, ◌+◌, ◌-◌, ◌<◌, ◌≤◌, List, [], ◌∷◌, ◌++◌, length, get_or, map, All, refl, ap, sym, ◌∙◌, arith, rules}
+use Rattle.std.proofs.Common.{suc, List, [], ◌∷◌, ◌++◌, map, All, arith}
 use Rattle.std.specs.List.{AllPairs}
 use Rattle.std.proofs.lemmas.List.Kept.{AllPairs-cons}
-use Rattle.std.proofs.lemmas.List.Elements.{All-map, All-append, All-head, All-tail, All-nil}
+use Rattle.std.proofs.lemmas.List.Elements.{All-map, All-append, All-head, All-tail}
 
 pub AllPairs-tail : {X : Type 0} (R : X → X → Type 0) (x : X) (xs : List X) → AllPairs R (x ∷ xs) → AllPairs R xs
 AllPairs-tail R x xs h i j d lt k = h (suc i) (suc j) d (omega arith) (omega arith)

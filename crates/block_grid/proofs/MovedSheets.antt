@@ -1,90 +1,14 @@
 -- A sheet whose places move in order is a sheet again.
-use Rattle.std.proofs.Common.{
-  ◌≡◌,
-  ◌≢◌,
-  ℕ,
-  ◌+◌,
-  ◌-◌,
-  ◌<◌,
-  ◌≤◌,
-  ◌^◌,
-  ◌⊎◌,
-  Bool,
-  true,
-  false,
-  not,
-  IsTrue,
-  nat_lt,
-  nat_eq,
-  cond,
-  ◌&&◌,
-  ◌||◌,
-  Option,
-  Some,
-  None,
-  List,
-  [],
-  ◌∷◌,
-  ◌++◌,
-  length,
-  get_or,
-  map,
-  All,
-  refl,
-  ap,
-  sym,
-  ◌∙◌,
-  subst,
-  arith,
-  rules,
-}
-use Rattle.std.specs.List.{AllPairs, find}
-use Rattle.std.specs.Option.{option_map, ForSome, ForNone}
+use Rattle.std.proofs.Common.{◌≡◌, ◌≢◌, ℕ, ◌<◌, ◌≤◌, ◌^◌, nat_eq, Option, Some, None, List, [], ◌∷◌, map, refl, ap, sym, ◌∙◌, subst}
+use Rattle.std.specs.Option.{option_map}
 use Rattle.std.proofs.lemmas.Bool.{eq-eqb, eqb-true}
 use Rattle.std.proofs.lemmas.List.Elements.{All-map}
 use Rattle.block_grid.specs.declared.standing.Standing.{Standing}
 use Rattle.block_grid.specs.Lines.{BlockPlace, row_of, col_of, is_straight}
-use Rattle.block_grid.specs.Sheets.{
-  DrawnEdge,
-  line_of,
-  north_of,
-  south_of,
-  west_of,
-  east_of,
-  sides_of,
-  Sheet,
-  node_on,
-  stands_at,
-  GoesThrough,
-  EndsOn,
-  AreClear,
-  IsOnSheet,
-  IsDrawn,
-  IsSheet,
-}
+use Rattle.block_grid.specs.Sheets.{DrawnEdge, line_of, north_of, south_of, west_of, sides_of, Sheet, node_on, GoesThrough, EndsOn, AreClear, IsOnSheet, IsDrawn, IsSheet}
 use Rattle.block_grid.specs.Changes.{node_moved, edge_moved, sheet_moved}
 use Rattle.block_grid.proofs.Lists.{AllPairs-map}
-use Rattle.block_grid.proofs.Moves.{
-  SameSides,
-  IsUpright,
-  IsLevelled,
-  Origin,
-  kept,
-  upright,
-  level,
-  line_moved,
-  stands_moved,
-  node_on_moved,
-  node_on_none,
-  crossed_once,
-  passes_kept,
-  ends_kept,
-  passes_upright,
-  passes_level,
-  clear_kept,
-  clear_upright,
-  clear_level,
-}
+use Rattle.block_grid.proofs.Moves.{Origin, kept, upright, level, line_moved, stands_moved, node_on_moved, node_on_none, crossed_once, passes_kept, ends_kept, passes_upright, passes_level, clear_kept, clear_upright, clear_level}
 
 none_before : {A B : Type 0} (f : A → B) (o : Option A) → option_map f o ≡ None → o ≡ None
 none_before f None e = refl

@@ -1,69 +1,12 @@
 -- Sheets whose nodes and edges move: where the borders of each place came from.
-use Rattle.std.proofs.Common.{
-  ◌≡◌,
-  ◌≢◌,
-  ℕ,
-  ◌+◌,
-  ◌-◌,
-  ◌<◌,
-  ◌≤◌,
-  ◌^◌,
-  ◌⊎◌,
-  Bool,
-  true,
-  false,
-  not,
-  IsTrue,
-  nat_lt,
-  nat_eq,
-  cond,
-  ◌&&◌,
-  ◌||◌,
-  Option,
-  Some,
-  None,
-  List,
-  [],
-  ◌∷◌,
-  ◌++◌,
-  length,
-  get_or,
-  map,
-  All,
-  refl,
-  ap,
-  sym,
-  ◌∙◌,
-  subst,
-  arith,
-  rules,
-}
-use Rattle.std.specs.List.{AllPairs, find}
-use Rattle.std.specs.Option.{option_map, ForSome, ForNone}
+use Rattle.std.proofs.Common.{◌≡◌, ℕ, ◌<◌, ◌≤◌, Bool, true, false, nat_eq, cond, ◌&&◌, Some, None, List, [], ◌∷◌, map, refl, sym, ◌∙◌, arith}
+use Rattle.std.specs.List.{find}
+use Rattle.std.specs.Option.{option_map}
 use Rattle.std.proofs.lemmas.List.{map-append}
-use Rattle.std.proofs.lemmas.List.Elements.{All-map}
 use Rattle.block_grid.specs.declared.standing.Standing.{Standing}
-use Rattle.block_grid.specs.Lines.{BlockPlace, row_of, col_of, norths, wests, crossings, is_straight}
-use Rattle.block_grid.specs.Sheets.{
-  DrawnEdge,
-  line_of,
-  north_of,
-  south_of,
-  west_of,
-  east_of,
-  sides_of,
-  Sheet,
-  node_on,
-  stands_at,
-  GoesThrough,
-  EndsOn,
-  AreClear,
-  IsOnSheet,
-  IsDrawn,
-  IsSheet,
-}
-use Rattle.block_grid.specs.Changes.{node_moved, edge_moved, sheet_moved}
-use Rattle.block_grid.proofs.Crossings.{crossings_moved, crossings_none}
+use Rattle.block_grid.specs.Lines.{BlockPlace, row_of, col_of}
+use Rattle.block_grid.specs.Sheets.{DrawnEdge, line_of, north_of, south_of, west_of, east_of, sides_of, Sheet, node_on, stands_at, GoesThrough, EndsOn, AreClear, IsDrawn}
+use Rattle.block_grid.specs.Changes.{node_moved, edge_moved}
 use Rattle.block_grid.proofs.Found.{find-map, find-none}
 
 -- the edge e' crosses the borders of a place as e does those of another place

@@ -1,65 +1,15 @@
 -- One node has one place, and one place has one node.
-use Rattle.std.proofs.Common.{
-  ◌≡◌,
-  ◌≢◌,
-  ℕ,
-  zero,
-  suc,
-  ◌+◌,
-  ◌<◌,
-  ◌≤◌,
-  ◌⊎◌,
-  inl,
-  inr,
-  Bool,
-  true,
-  false,
-  nat_lt,
-  nat_eq,
-  cond,
-  ◌&&◌,
-  Option,
-  Some,
-  None,
-  List,
-  [],
-  ◌∷◌,
-  length,
-  get_or,
-  refl,
-  ap,
-  sym,
-  ◌∙◌,
-  subst,
-  arith,
-  rules,
-}
-use Rattle.std.specs.List.{find, list_any}
+use Rattle.std.proofs.Common.{◌≡◌, ℕ, suc, ◌+◌, ◌<◌, ◌≤◌, ◌⊎◌, inl, inr, Bool, true, false, nat_lt, nat_eq, cond, ◌&&◌, Option, Some, None, List, [], ◌∷◌, length, get_or, refl, ap, sym, ◌∙◌, arith}
+use Rattle.std.specs.List.{find}
 use Rattle.std.specs.Option.{option_map, option_map_or}
 use Rattle.std.proofs.lemmas.Bool.{eqb-true, eq-eqb}
 use Rattle.std.proofs.lemmas.Bool.Decides.{nat_tests}
 use Rattle.std.proofs.lemmas.List.Folds.{list_any_at}
 use Rattle.block_grid.specs.declared.standing.Standing.{Standing}
 use Rattle.block_grid.specs.declared.kind.BlockKind.{BlockKind}
-use Rattle.block_grid.specs.declared.kind.BlockKind.TheVariants.{Empty, Horizontal, Vertical, Cross, Corner, Node, Frame}
+use Rattle.block_grid.specs.declared.kind.BlockKind.TheVariants.{Empty, Horizontal, Vertical, Node, Frame}
 use Rattle.block_grid.specs.Lines.{BlockPlace, row_of, col_of}
-use Rattle.block_grid.specs.Sheets.{
-  DrawnEdge,
-  Sheet,
-  node_on,
-  stands_at,
-  north_of,
-  south_of,
-  west_of,
-  east_of,
-  sides_of,
-  is_crossed_north,
-  is_crossed_west,
-  wire_kind,
-  node_kind,
-  block_at,
-  IsSheet,
-}
+use Rattle.block_grid.specs.Sheets.{DrawnEdge, Sheet, node_on, stands_at, north_of, west_of, is_crossed_north, is_crossed_west, wire_kind, node_kind, block_at, IsSheet}
 use Rattle.block_grid.proofs.Stretches.{IsAt}
 
 -- what is found stands at a number of the list and passes

@@ -1,39 +1,7 @@
 -- How often one straight stretch crosses the four borders of a place.
-use Rattle.std.proofs.Common.{
-  ◌≡◌,
-  ◌≢◌,
-  ℕ,
-  ◌+◌,
-  ◌-◌,
-  ◌<◌,
-  ◌≤◌,
-  ◌⊎◌,
-  inl,
-  inr,
-  Bool,
-  true,
-  false,
-  not,
-  IsTrue,
-  nat_lt,
-  nat_eq,
-  ◌==◌,
-  cond,
-  ◌&&◌,
-  ◌||◌,
-  min,
-  max,
-  refl,
-  ap,
-  sym,
-  ◌∙◌,
-  subst,
-  arith,
-  rules,
-}
-use Rattle.std.proofs.lemmas.Bool.{eqb-true, eqb-false, eq-eqb}
-use Rattle.std.proofs.lemmas.Bool.Decides.{nat_tests}
-use Rattle.block_grid.specs.Lines.{BlockPlace, row_of, col_of, separates, stretch_crossings, IsOnStretch}
+use Rattle.std.proofs.Common.{◌≡◌, ◌≢◌, ℕ, ◌+◌, ◌-◌, ◌<◌, ◌≤◌, Bool, true, false, nat_eq, ◌==◌, ◌||◌, min, max, refl, sym, ◌∙◌, arith}
+use Rattle.std.proofs.lemmas.Bool.{eqb-true, eqb-false}
+use Rattle.block_grid.specs.Lines.{BlockPlace, row_of, col_of, stretch_crossings, IsOnStretch}
 use Rattle.block_grid.proofs.Bits.{bit, BitFacts, bit_facts, along_on, along_off, along_same}
 
 abbrev pub north_by : BlockPlace → BlockPlace → ℕ → ℕ → ℕ

@@ -1,55 +1,11 @@
 -- A walk over places that occur once is a line that never returns to itself.
-use Rattle.std.proofs.Common.{
-  ◌≡◌,
-  ◌≢◌,
-  ℕ,
-  zero,
-  suc,
-  ◌+◌,
-  ◌<◌,
-  ◌≤◌,
-  ◌⊎◌,
-  inl,
-  inr,
-  Bool,
-  true,
-  false,
-  IsTrue,
-  nat_lt,
-  nat_eq,
-  ◌==◌,
-  cond,
-  ◌&&◌,
-  ◌||◌,
-  min,
-  max,
-  Option,
-  Some,
-  None,
-  List,
-  [],
-  ◌∷◌,
-  ◌++◌,
-  length,
-  get_or,
-  All,
-  refl,
-  ap,
-  sym,
-  ◌∙◌,
-  subst,
-  arith,
-  rules,
-}
+use Rattle.std.proofs.Common.{◌≡◌, ◌≢◌, ℕ, ◌+◌, ◌⊎◌, inl, inr, Bool, true, false, IsTrue, nat_eq, ◌==◌, ◌&&◌, ◌||◌, Some, None, List, [], ◌∷◌, ◌++◌, get_or, All, refl, sym, ◌∙◌, subst, arith, rules}
 use Rattle.std.specs.List.{AllPairs}
 use Rattle.std.proofs.lemmas.Bool.{eq-eqb}
 use Rattle.std.proofs.lemmas.Bool.Decides.{nat_tests}
 use Rattle.std.proofs.lemmas.List.Elements.{All-head, All-tail, All-cons, All-nil, All-push}
 use Rattle.std.proofs.lemmas.List.Kept.{AllPairs-cons}
 use Rattle.std.proofs.lemmas.List.Quantifiers.{all_pairs_push}
-use Rattle.block_grid.specs.declared.standing.Standing.{Standing}
-use Rattle.block_grid.specs.declared.kind.BlockKind.{BlockKind}
-use Rattle.block_grid.specs.declared.kind.BlockKind.TheVariants.{Empty, Horizontal, Vertical}
 use Rattle.block_grid.specs.Lines.{BlockPlace, row_of, col_of, is_straight, IsOnStretch}
 use Rattle.block_grid.specs.Sheets.{DrawnEdge, line_of, Sheet, node_on, stands_at, block_at, IsSheet}
 use Rattle.block_grid.specs.Laying.{IsOnLine, NeverReturns, MayPass, IsFreeBetween, IsFreeLine, AreNeighbours, IsWalk, ArePassed, MayDraw, MayLay}

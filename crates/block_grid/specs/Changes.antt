@@ -1,5 +1,5 @@
 -- Sheets that grow by rows and columns, and sheets joined.
-use Rattle.std.specs.Prelude.{◌≡◌, ℕ, ◌+◌, ◌<◌, true, false, nat_lt, cond, max, List, [], ◌∷◌, ◌++◌, map, All}
+use Rattle.std.specs.Prelude.{ℕ, ◌+◌, ◌<◌, true, false, nat_lt, cond, max, List, [], ◌∷◌, ◌++◌, map, All}
 use Rattle.block_grid.specs.declared.kind.BlockKind.{BlockKind}
 use Rattle.block_grid.specs.declared.kind.BlockKind.TheVariants.{Empty, Node, Frame}
 use Rattle.block_grid.specs.declared.standing.Standing.{Standing}

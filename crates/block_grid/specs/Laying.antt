@@ -1,26 +1,5 @@
 -- When an edge may be drawn along a line.
-use Rattle.std.specs.Prelude.{
-  ◌≡◌,
-  ◌≢◌,
-  ◌⊎◌,
-  ℕ,
-  ◌+◌,
-  ◌<◌,
-  ◌≤◌,
-  Bool,
-  true,
-  false,
-  IsTrue,
-  Option,
-  Some,
-  List,
-  [],
-  ◌∷◌,
-  ◌++◌,
-  All,
-  AllPairs,
-  unwrap_or,
-}
+use Rattle.std.specs.Prelude.{◌≡◌, ◌≢◌, ◌⊎◌, ℕ, ◌+◌, ◌<◌, Bool, true, false, IsTrue, Some, List, [], ◌∷◌, ◌++◌, All, AllPairs, unwrap_or}
 use Rattle.block_grid.specs.declared.kind.BlockKind.{BlockKind}
 use Rattle.block_grid.specs.declared.kind.BlockKind.TheVariants.{Empty, Horizontal, Vertical}
 use Rattle.block_grid.specs.Lines.{BlockPlace, row_of, col_of, is_straight, IsOnStretch}

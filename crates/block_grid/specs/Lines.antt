@@ -1,6 +1,6 @@
 -- Lines that run straight from place to place, and how they cross the borders between places. A place is a row, counted
 -- from the north, and a column, counted from the west.
-use Rattle.std.specs.Prelude.{◌≡◌, ℕ, ◌+◌, ◌≤◌, Bool, true, not, ◌&&◌, ◌||◌, ◌==◌, nat_lt, cond, min, max, List, [], ◌∷◌}
+use Rattle.std.specs.Prelude.{ℕ, ◌+◌, ◌≤◌, Bool, true, not, ◌&&◌, ◌||◌, ◌==◌, nat_lt, cond, min, max, List, [], ◌∷◌}
 
 abbrev pub BlockPlace : Type 0
 BlockPlace = ℕ × ℕ

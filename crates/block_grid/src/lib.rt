@@ -4,6 +4,7 @@
 pub mod blocks;
 pub mod edge;
 pub mod kind;
+pub mod laws;
 pub mod standing;
 mod stretch;
 

@@ -1,8 +1,8 @@
-use Rattle.std.proofs.Common.{◌≡◌, ℕ, ◌+◌, Bool, nat_lt, Option, None, Some, List, refl, ap, sym, ◌∙◌, subst}
+use Rattle.std.proofs.Common.{◌≡◌, ℕ, ◌+◌, Bool, nat_lt, Option, None, Some, List, refl, ap, ◌∙◌, subst}
 use Rattle.std.specs.Option.{option_map}
 use Rattle.std.specs.List.{list_any}
 use Rattle.block_grid.specs.declared.standing.Standing.{Standing}
-use Rattle.block_grid.specs.Sheets.{DrawnEdge, Sheet, north_of, west_of, node_on, node_kind, is_crossed_north, is_crossed_west, wire_kind, block_at}
+use Rattle.block_grid.specs.Sheets.{Sheet, north_of, west_of, node_on, node_kind, is_crossed_north, is_crossed_west, wire_kind, block_at}
 use Rattle.block_grid.proofs.blocks.Blocks.kind_at.Goals as goal
 
 no_node : (own nodes : List Standing) (r c : ℕ) → own ≡ nodes → None ≡ option_map node_kind (node_on own r c) → node_on nodes r c ≡ None
