@@ -5,26 +5,42 @@ use star_normal::{Node, NodeKind, Tree, normalize, sizes};
 use std::alloc::Global;
 use std::test::Fail;
 
-/// What stands behind `line x; symbol a = 1; symbol b = 0; symbol c = -; output y z;`, and the nodes of its normal form, the root
-/// last; then how many leaves each node has. A node is the number of a symbol, or its parts around `.` for a sequence and `|` for
-/// a union; `+` stands behind it where it loops, `?` where it spells the empty word, `!` and a mask where it marks outputs, and
-/// `%` and a mask where it marks them at the empty word.
+/// What stands behind `line x; symbol a = 1; symbol b = 0; symbol c = -; output y z;`, and its normal form. A leaf is the number of
+/// its symbol. Any other node is its parts around `.` for a sequence and `|` for a union, in parentheses, and `#` with the number
+/// of its leaves. `+` stands behind a node where it loops, `?` where it spells the empty word, `!` and a mask where it marks
+/// outputs, and `%` and a mask where it marks them at the empty word.
 const FORMS: &[(&str, &str)] = &[
-    ("expr ((a*)* | b?)+ !y;", "0 1 0|1+?!1%1 of 1 1 2"),
-    ("expr ((a !y)* b?)*;", "0!1 1 0|1+? of 1 1 2"),
-    ("expr (a+ b)*;", "0+ 1 0.1+? of 1 1 2"),
-    ("expr a !y; expr b+ !z;", "0!1 1+!2 0|1 of 1 1 2"),
-    ("expr a b | c;", "0 1 0.1 2 2|3 of 1 1 2 1 3"),
-    ("expr (a? !y)*;", "0+?!1%1 of 1"),
+    ("expr ((a*)* | b?)+ !y;", "(0|1)#2+?!1%1"),
+    ("expr ((a !y)* b?)*;", "(0!1|1)#2+?"),
+    ("expr (a+ b)*;", "(0+.1)#2+?"),
+    ("expr a !y; expr b+ !z;", "(0!1|1+!2)#2"),
+    ("expr a b | c;", "((0.1)#2|2)#3"),
+    ("expr (a? !y)*;", "0+?!1%1"),
 ];
 
+/// The text of a part, which stands before its node.
+fn part_text(texts: &[String], part: u32) -> Result<&str, Fail> {
+    match texts.get(part as usize) {
+        Some(text) => Ok(text.as_str()),
+        None => Err("a part stands behind its node".into()),
+    }
+}
+
 /// What the node is made of.
-fn kind_text(alloc: Global, kind: NodeKind) -> Result<String, Fail> {
-    Ok(match kind {
-        NodeKind::Leaf(symbol) => format!(in alloc; "{symbol}")?,
-        NodeKind::Seq { left, right } => format!(in alloc; "{left}.{right}")?,
-        NodeKind::Alt { left, right } => format!(in alloc; "{left}|{right}")?,
-    })
+fn kind_text(alloc: Global, kind: NodeKind, leaves: u32, texts: &[String]) -> Result<String, Fail> {
+    match kind {
+        NodeKind::Leaf(symbol) => Ok(format!(in alloc; "{symbol}")?),
+        NodeKind::Seq { left, right } => {
+            let left = part_text(texts, left)?;
+            let right = part_text(texts, right)?;
+            Ok(format!(in alloc; "({left}.{right})#{leaves}")?)
+        }
+        NodeKind::Alt { left, right } => {
+            let left = part_text(texts, left)?;
+            let right = part_text(texts, right)?;
+            Ok(format!(in alloc; "({left}|{right})#{leaves}")?)
+        }
+    }
 }
 
 /// The sign and the mask, if it marks an output.
@@ -35,29 +51,23 @@ fn mask_text(alloc: Global, sign: &str, mask: u16) -> Result<String, Fail> {
     Ok(format!(in alloc; "{sign}{mask}")?)
 }
 
-fn node_text(alloc: Global, node: &Node) -> Result<String, Fail> {
-    let kind = kind_text(alloc, node.kind)?;
+fn node_text(alloc: Global, node: &Node, leaves: u32, texts: &[String]) -> Result<String, Fail> {
+    let kind = kind_text(alloc, node.kind, leaves, texts)?;
     let loops = if node.loops { "+" } else { "" };
     let empty = if node.eps { "?" } else { "" };
     let marks = mask_text(alloc, "!", node.marks)?;
     let at_empty = mask_text(alloc, "%", node.eps_marks)?;
-    Ok(format!(in alloc; "{kind}{loops}{empty}{marks}{at_empty} ")?)
+    Ok(format!(in alloc; "{kind}{loops}{empty}{marks}{at_empty}")?)
 }
 
-/// The nodes, and how many leaves each has.
+/// The normal form as a text.
 fn form_text(alloc: Global, tree: &Tree) -> Result<String, Fail> {
-    if tree.root() as usize + 1 != tree.nodes().len() {
-        return Err("the root is not last".into());
+    let mut texts = Vec::new(alloc);
+    for (node, leaves) in tree.nodes().iter().zip(sizes(alloc, tree)?.iter()) {
+        let text = node_text(alloc, node, *leaves, &texts)?;
+        texts.push(text)?;
     }
-    let mut text = String::new(alloc);
-    for node in tree.nodes() {
-        text.push_str(node_text(alloc, node)?.as_str())?;
-    }
-    text.push_str("of")?;
-    for leaves in sizes(alloc, tree)?.iter() {
-        text.push_str(format!(in alloc; " {leaves}")?.as_str())?;
-    }
-    Ok(text)
+    Ok(part_text(&texts, tree.root())?.to_string(alloc)?)
 }
 
 /// The normal form of what these expressions declare and say.
