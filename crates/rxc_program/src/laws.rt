@@ -1,15 +1,16 @@
 // Laws of inputs and outputs. These functions run nothing: a caller has the law from the contract.
 
-ghost use Rattle.std.specs.Prelude.{◌≡◌, ℕ, List};
+ghost use Rattle.std.specs.Prelude.{◌≡◌, ℕ, Bool, List};
+ghost use Rattle.switch_net.specs.Circuit.{Circuit};
 ghost use Rattle.rxc_program.specs.Behaviour.{InputsAreJudged};
 ghost use Rattle.rxc_program.specs.Commands.{behaviour};
-ghost use Rattle.rxc_program.specs.Simulating.{IsSimulated};
+ghost use Rattle.rxc_program.specs.Simulating.{Drives, IsSimulated};
 ghost use Rattle.rxc_program.specs.Telling.{FilesShowTheirLanguages, NetworksShowTheirLanguages};
 ghost use Rattle.rxc_program.specs.declared.words.Command.{Command};
 
 use net_text::{text_is_of_one_network, texts_are_networks_or_refused};
 use rx_syntax::laws::texts_are_accepted_or_refused_at_a_place;
-use switch_sim::{texts_are_traces_or_refused, traces_have_one_output};
+use switch_sim::{texts_are_traces_or_refused, traces_have_an_output, traces_have_one_output};
 
 /// Every input is accepted by a command or refused by it for one reason, and never both.
 pub fn inputs_are_judged()
@@ -21,7 +22,14 @@ pub fn inputs_are_judged()
     text_is_of_one_network();
 }
 
-/// An input of `sim` stands for one output.
+/// An accepted input of `sim` stands for an output.
+pub fn sim_has_an_output()
+    ensures { (text : List ℕ) (vectors : List (List Bool)) (circuit : Circuit) → Drives text vectors circuit → (lines : List ℕ) × IsSimulated text lines }
+{
+    traces_have_an_output();
+}
+
+/// And for no other.
 pub fn sim_has_one_output()
     ensures { (text some others : List ℕ) → IsSimulated text some → IsSimulated text others → some ≡ others }
 {

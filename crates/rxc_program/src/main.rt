@@ -17,7 +17,9 @@ mod status;
 mod top;
 mod words;
 
-pub use laws::{inputs_are_judged, networks_show_their_languages, sim_has_one_output};
+pub use laws::{
+    inputs_are_judged, networks_show_their_languages, sim_has_an_output, sim_has_one_output,
+};
 pub use status::{Code, Status};
 pub use top::rxc;
 pub use words::RxWord;
