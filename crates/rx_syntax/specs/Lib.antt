@@ -10,6 +10,7 @@ pub mod Printed
 pub mod PrintExamples
 -- Definitions that serve private contracts alone:
 pub mod Machine
+pub mod Heads
 pub mod UsesRead
 pub mod NameTables
 pub mod NameReading

@@ -20,6 +20,7 @@ mod repeats;
 pub mod shape;
 mod spec_code;
 mod use_kind;
+mod version;
 
 pub use print::print_spec;
 pub use read::{ReadSpecFault, SpecFault, read_spec};

@@ -228,7 +228,7 @@ pub(crate) fn read_names<'a>(
         depth: 0,
     };
     while at < text.len() {
-        let (kind, behind) = piece_at(text, at);
+        let (kind, behind) = piece_at(crate::version::Version::One, text, at);
         let used = use_of(state.due, kind);
         names.read_piece(alloc, used, &text[at..behind], at, most_leaves)?;
         match state.over(kind) {

@@ -34,7 +34,7 @@ pub(crate) fn read_nodes(
         depth: 0,
     };
     while at < text.len() {
-        let (kind, behind) = piece_at(text, at);
+        let (kind, behind) = piece_at(crate::version::Version::One, text, at);
         builder.read_piece(declarations, state.due, kind, &text[at..behind])?;
         match state.over(kind) {
             Ok(next) => state = next,
