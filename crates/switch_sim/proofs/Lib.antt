@@ -15,3 +15,6 @@ pub mod Runs
 pub mod Faultless
 pub mod OneTrace
 pub mod OneRun
+pub mod Grouping
+pub mod RightlyTold
+pub mod Sweeping

@@ -11,4 +11,6 @@ pub mod Waiting
 pub mod Incidence
 pub mod Spreading
 pub mod Updating
+pub mod Grouping
+pub mod Sweeping
 pub mod Simulating

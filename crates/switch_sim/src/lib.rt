@@ -2,6 +2,7 @@
 #![tactic(auto)]
 
 mod drive;
+mod group;
 mod incidence;
 mod laws;
 mod marking;
@@ -9,6 +10,7 @@ mod marks;
 mod run;
 mod settling;
 mod sim;
+mod telling;
 mod trace;
 mod trace_code;
 mod waiting;
