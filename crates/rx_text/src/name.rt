@@ -52,7 +52,8 @@ impl Name {
 
     /// The bytes of the name.
     pub fn as_bytes(&self) -> &[u8]
-        ensures { result.now ≡ self.now }
+        ensures bytes { result.now ≡ self.now }
+        ensures name { is_name self.now ≡ true }
     {
         &self.bytes[..self.count]
     }
