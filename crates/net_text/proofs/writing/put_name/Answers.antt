@@ -7,4 +7,4 @@ returns-in_err-put-in-Some-clause-bytes g c =
 
 pub returns-in_ok-put-in-Some-clause-bytes : goal.returns-in_ok-put-in-Some-clause-bytes
 returns-in_ok-put-in-Some-clause-bytes g c =
-    rw c.in-Some.is (PutsBehind-last _ _ _ _ c.in_ok-put-in-Some.ensures.bytes (rw c.as_bytes.ensures at c.put-in-Some.ensures.bytes))
+    rw c.in-Some.is (PutsBehind-last _ _ _ _ c.in_ok-put-in-Some.ensures.bytes (rw c.as_bytes.ensures.bytes at c.put-in-Some.ensures.bytes))

@@ -49,7 +49,7 @@ returns-in_ok-extend_from_slice-in-Leaf c =
     ∙ ap (λ xs. (get_or xs c.in-Leaf.symbol c.index-symbols-symbol.result).name) (sym c.symbols.ensures.symbols)
     ∙ ap (λ s. s.name) (sym c.index-symbols-symbol.is)
     ∙ ap (λ s. s.name) (sym c.declared.view_is)
-    ∙ sym c.as_bytes.ensures in
+    ∙ sym c.as_bytes.ensures.bytes in
     rw c.in_ok-extend_from_slice-in-Leaf.ensures.items
     (puts_text c.args.spec.now (Pieces.Node c.args.node) c.args.text.now.items c.as_bytes.result.now c.args.stack.now.items name
     (subst (λ e. 0 < tree_pieces e) (sym tree) (omega arith)))
