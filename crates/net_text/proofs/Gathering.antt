@@ -6,6 +6,11 @@ use Rattle.std.specs.Io.KnownBytes.{Appends}
 use Rattle.rx_io.specs.Streams.{AppendsFront}
 use Rattle.net_text.specs.Gathered.{Gathers, PutsBehind}
 
+-- what holds anyway holds where all went well
+pub on_ok : {A E P : Type 0} (result : Result A E) → P → OnOk result P
+on_ok (Ok _) p = p
+on_ok (Err _) p = tt
+
 -- a front of the first piece was taken, and nothing of the second
 pub AppendsFront-first : (a b : Option (List ℕ)) (first second : List ℕ) → AppendsFront a b first → AppendsFront a b (first ++ second)
 AppendsFront-first a b first second taken = record {

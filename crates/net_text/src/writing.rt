@@ -1,12 +1,13 @@
 // The writer of a network's text.
-ghost use Rattle.std.specs.Prelude.{◌≡◌, ◌≤◌, OnErr, OnOk};
+ghost use Rattle.std.specs.Prelude.{◌≡◌, ◌≤◌, true, All, IfSome, OnErr, OnOk};
 ghost use Rattle.std.specs.Io.KnownBytes.{Appends};
 ghost use Rattle.std.specs.Fmt.{decimal};
 ghost use Rattle.std.specs.List.{flat_map};
 ghost use Rattle.rx_io.specs.Causes.{Rose};
 ghost use Rattle.rx_io.specs.Streams.{AppendsFront};
 ghost use Rattle.net_text.specs.Gathered.{PutsBehind};
-ghost use Rattle.net_text.specs.NetworkText.{number_part, name_part, role_word, head_lines, pad_line, device_line, network_text};
+ghost use Rattle.rx_text.specs.Name.{is_name};
+ghost use Rattle.net_text.specs.NetworkText.{IsNamed, IsNetworkText, number_part, name_part, role_word, head_lines, pad_line, device_line, network_text};
 
 use crate::page::Page;
 use rx_io::{Failed, Sink};
@@ -14,7 +15,8 @@ use rx_text::{Name, NumberText, Role};
 use switch_net::{Device, Network, Pad};
 
 /// Writes the text of the network, its pads and devices in their order. After a failure the sink has gained a front
-/// of the text, perhaps nothing. Takes no memory.
+/// of the text, perhaps nothing. Takes no memory. What is written of a network with at most 16,777,216 nets is read back as
+/// this network, number by number.
 ///
 /// # Errors
 ///
@@ -23,6 +25,7 @@ pub fn write_net<K: Sink>(net: &Network, sink: &mut K) -> Result<(), Failed>
     ensures ok { OnOk result (Appends (K.held sink.old) (K.held sink.new) (network_text net.now)) }
     ensures failed { OnErr result
         (AppendsFront (K.held sink.old) (K.held sink.new) (network_text net.now)) }
+    ensures reads_back { OnOk result (net.now.nets ≤ 16777216 → IsNetworkText (network_text net.now) net.now) }
     ensures never_falls { K.faults sink.old ≤ K.faults sink.new }
     ensures cause { OnErr result (Rose (K.faults sink.old) (K.faults sink.new)) }
 {
@@ -35,6 +38,7 @@ pub fn write_net<K: Sink>(net: &Network, sink: &mut K) -> Result<(), Failed>
 fn put_net<K: Sink>(page: &mut Page, sink: &mut K, net: &Network) -> Result<(), Failed>
     ensures bytes { PutsBehind result (K.held sink.old) (K.held sink.new) page.old page.new
         (network_text net.now) }
+    ensures reads_back { OnOk result (net.now.nets ≤ 16777216 → IsNetworkText (network_text net.now) net.now) }
     ensures never_falls { K.faults sink.old ≤ K.faults sink.new }
     ensures cause { OnErr result (Rose (K.faults sink.old) (K.faults sink.new)) }
 {
@@ -60,6 +64,7 @@ fn put_head<K: Sink>(page: &mut Page, sink: &mut K, nets: u32) -> Result<(), Fai
 fn put_pads<K: Sink>(page: &mut Page, sink: &mut K, pads: &[Pad]) -> Result<(), Failed>
     ensures bytes { PutsBehind result (K.held sink.old) (K.held sink.new) page.old page.new
         (flat_map pad_line pads.now) }
+    ensures named { OnOk result (All IsNamed pads.now) }
     ensures never_falls { K.faults sink.old ≤ K.faults sink.new }
     ensures cause { OnErr result (Rose (K.faults sink.old) (K.faults sink.new)) }
 {
@@ -86,6 +91,7 @@ fn put_devices<K: Sink>(page: &mut Page, sink: &mut K, devices: &[Device]) -> Re
 fn put_pad<K: Sink>(page: &mut Page, sink: &mut K, pad: Pad) -> Result<(), Failed>
     ensures bytes { PutsBehind result (K.held sink.old) (K.held sink.new) page.old page.new
         (pad_line pad) }
+    ensures named { OnOk result (IsNamed pad) }
     ensures never_falls { K.faults sink.old ≤ K.faults sink.new }
     ensures cause { OnErr result (Rose (K.faults sink.old) (K.faults sink.new)) }
 {
@@ -122,6 +128,7 @@ fn put_device<K: Sink>(page: &mut Page, sink: &mut K, device: Device) -> Result<
 fn put_name<K: Sink>(page: &mut Page, sink: &mut K, name: Option<Name>) -> Result<(), Failed>
     ensures bytes { PutsBehind result (K.held sink.old) (K.held sink.new) page.old page.new
         (name_part name) }
+    ensures named { OnOk result (IfSome name (λ bytes. is_name bytes ≡ true)) }
     ensures never_falls { K.faults sink.old ≤ K.faults sink.new }
     ensures cause { OnErr result (Rose (K.faults sink.old) (K.faults sink.new)) }
 {

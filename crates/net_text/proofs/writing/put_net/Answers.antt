@@ -1,5 +1,5 @@
-use Rattle.std.proofs.Common.{append_assoc}
-use Rattle.net_text.proofs.Gathering.{Gathers-nil, Gathers-trans, PutsBehind-failed, PutsBehind-last}
+use Rattle.std.proofs.Common.{append_assoc, refl}
+use Rattle.net_text.proofs.Gathering.{on_ok, Gathers-nil, Gathers-trans, PutsBehind-failed, PutsBehind-last}
 use Rattle.net_text.proofs.writing.put_net.Goals as goal
 
 pub returns-in_err-put_head-clause-bytes : goal.returns-in_err-put_head-clause-bytes
@@ -26,3 +26,9 @@ returns-clause-bytes g c =
     let pads = rw c.pads.ensures.pads at c.in_ok-put_pads.ensures.bytes in
     let devices = rw c.devices.ensures at c.in_ok-put_devices.ensures.bytes in
     PutsBehind-last _ _ _ _ (Gathers-trans (Gathers-trans head pads) devices) c.put.ensures.bytes
+
+pub returns-clause-reads_back : goal.returns-clause-reads_back
+returns-clause-reads_back g c = on_ok c.put.result (λ few. record {
+  text_of = record { text = refl; named = rw c.pads.ensures.pads at c.in_ok-put_pads.ensures.named; few_nets = few };
+  network = c.pads.ensures.valid;
+})
