@@ -2,8 +2,7 @@
 use Rattle.std.proofs.Common.{◌≡◌, ℕ, ◌+◌, ◌<◌, List, [], ◌∷◌, ◌++◌, Option, Result, length, get_or, take, drop, sym, ap, ◌∙◌, append-nil}
 use Rattle.std.proofs.lemmas.List.{take_more, take-append-drop}
 use Rattle.std.proofs.lemmas.Grind.{flat_map-append}
-use Rattle.std.proofs.lemmas.List.Elements.{All-push}
-use Rattle.std.specs.Prelude.{All, IsErr}
+use Rattle.std.specs.Prelude.{IsErr}
 use Rattle.std.specs.List.{flat_map}
 use Rattle.rx_io.specs.Streams.{AppendsFront}
 use Rattle.net_text.specs.Gathered.{Gathers, PutsBehind}
@@ -26,10 +25,6 @@ module _ {X : Type 0} (line : X → List ℕ) (xs : List X) (i : ℕ) (x d : X) 
   pub Gathers-line : {a b c : Option (List ℕ)} {p q r : List ℕ} → Gathers a b p q (flat_map line (take i xs)) → Gathers b c q r (line x)
       → Gathers a c p r (flat_map line (take (i + 1) xs))
   Gathers-line before now = rw lines_more (Gathers-trans before now)
-
-  -- what holds of the elements before, and of this one
-  pub All-more : (P : X → Type 0) → All P (take i xs) → P x → All P (take (i + 1) xs)
-  All-more P before now = rw (take_more xs i d within, ← is) (All-push P (take i xs) x before now)
 
   -- the line failed
   pub PutsBehind-line_failed : {A E : Type 0} {a b : Option (List ℕ)} {p q : List ℕ} (result : Result A E) (c : Option (List ℕ)) (r : List ℕ) → IsErr result

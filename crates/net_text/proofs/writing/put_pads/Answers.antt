@@ -1,8 +1,8 @@
 use Rattle.std.proofs.Common.{arith}
-use Rattle.std.proofs.lemmas.List.Elements.{All-nil}
+use Rattle.std.proofs.lemmas.List.Elements.{All-more, All-nil}
 use Rattle.net_text.proofs.Gathering.{Gathers-nil}
-use Rattle.net_text.proofs.Lines.{All-more, Gathers-line, PutsBehind-line_failed}
-use Rattle.net_text.specs.NetworkText.{IsNamed, pad_line}
+use Rattle.net_text.proofs.Lines.{Gathers-line, PutsBehind-line_failed}
+use Rattle.net_text.specs.NetworkText.{IsNamed}
 use Rattle.net_text.proofs.writing.put_pads.Goals as goal
 
 pub loop-pad-init : goal.loop-pad-init
@@ -11,7 +11,7 @@ loop-pad-init g c = record { gathered = Gathers-nil _ _; named = All-nil IsNamed
 pub loop-pad-preserved : goal.loop-pad-preserved
 loop-pad-preserved g c = record {
   gathered = Gathers-line _ _ _ _ _ c.loop-pad-test.true c.pad-item.is c.loop-pad.invariant.gathered c.in_ok-put_pad.ensures.bytes;
-  named = All-more pad_line _ _ _ _ c.loop-pad-test.true c.pad-item.is IsNamed c.loop-pad.invariant.named c.in_ok-put_pad.ensures.named;
+  named = All-more IsNamed _ _ _ c.loop-pad-test.true c.loop-pad.invariant.named (rw c.pad-item.is at c.in_ok-put_pad.ensures.named);
   count = omega (arith, c.in_ok-put_pad.ensures.never_falls);
 }
 
