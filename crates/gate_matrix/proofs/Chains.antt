@@ -9,12 +9,13 @@ use Rattle.nor_net.specs.Part.{PartTables}
 use Rattle.nor_net.specs.declared.gate.Transfer.{Transfer}
 use Rattle.gate_matrix.specs.Rows.{MatrixRow, blank_row, load_rows, device_rows, gate_rows}
 use Rattle.gate_matrix.specs.Matrices.{is_vdd, is_load, is_stop, gated_south, LeadsOn}
+use Rattle.gate_matrix.proofs.Stacks.{Stacked, is_middle}
 use Rattle.gate_matrix.specs.PartRows.{has_load, rows_of_gate, rows_of_gates, rows_of_load, rows_of_transfer, rows_of_part, height_of_gate, height_of_gates, height_of_load, height_of_part}
 
 -- each row leads on to the next, behind the first
 abbrev Chain : MatrixRow → List MatrixRow → Type 0
 Chain row [] = Unit {0}
-Chain row (next ∷ rows) = LeadsOn row next × Chain next rows
+Chain row (next ∷ rows) = Stacked row next × Chain next rows
 
 abbrev last_of : MatrixRow → List MatrixRow → MatrixRow
 last_of row [] = row
@@ -26,6 +27,7 @@ record Ends (row : MatrixRow) : Type 0 where
   no_vdd : is_vdd row.kind ≡ false
   no_load : is_load row.kind ≡ false
   no_stop : is_stop row.kind ≡ false
+  no_middle : is_middle row.kind ≡ false
 
 -- Behind a row from which nothing leads on, the rows are a chain, and nothing leads on from the last.
 abbrev IsRun : List MatrixRow → Type 0
@@ -39,14 +41,27 @@ last_on : (row : MatrixRow) (rows more : List MatrixRow) → last_of row (rows +
 last_on row [] more = refl
 last_on row (next ∷ rows) more = last_on next rows more
 
-chained : (row : MatrixRow) (rows : List MatrixRow) → Chain row rows → (i j : ℕ) → j ≡ suc i → j < length rows → LeadsOn (get_or rows i blank_row) (get_or rows j blank_row)
-chained row [] h i j e below = absurd (omega arith)
-chained row (next ∷ []) h i j e below = absurd (omega arith)
-chained row (next ∷ after ∷ rows) h zero j e below =
-    subst (λ (k : ℕ). LeadsOn next (get_or (next ∷ after ∷ rows) k blank_row)) (sym e) h.1.0
-chained row (next ∷ after ∷ rows) h (suc i) j e below =
-    subst (λ (k : ℕ). LeadsOn (get_or (after ∷ rows) i blank_row) (get_or (next ∷ after ∷ rows) k blank_row)) (sym e)
-    (chained next (after ∷ rows) h.1 i (suc i) refl (omega arith))
+-- the last row, above rows that are blank
+end_stacked : (row : MatrixRow) → Ends row → Stacked row blank_row
+end_stacked row ends = record {
+  leads = record { devices = ends.devices; load = ends.no_vdd; out = ends.no_load; begun = refl; ended = ends.no_stop };
+  middle = ends.no_middle;
+}
+
+chained : (row : MatrixRow) (rows : List MatrixRow) → Chain row rows → Ends (last_of row rows) → (i j : ℕ) → j ≡ suc i → i < length rows
+    → Stacked (get_or rows i blank_row) (get_or rows j blank_row)
+chained row [] h ends i j e below = absurd (omega arith)
+chained row (next ∷ []) h ends zero j e below = subst (λ (k : ℕ). Stacked next (get_or (next ∷ []) k blank_row)) (sym e) (end_stacked next ends)
+chained row (next ∷ []) h ends (suc i) j e below = absurd (omega arith)
+chained row (next ∷ after ∷ rows) h ends zero j e below =
+    subst (λ (k : ℕ). Stacked next (get_or (next ∷ after ∷ rows) k blank_row)) (sym e) h.1.0
+chained row (next ∷ after ∷ rows) h ends (suc i) j e below =
+    subst (λ (k : ℕ). Stacked (get_or (after ∷ rows) i blank_row) (get_or (next ∷ after ∷ rows) k blank_row)) (sym e)
+    (chained next (after ∷ rows) h.1 ends i (suc i) refl (omega arith))
+
+chain_begins : (row : MatrixRow) (rows : List MatrixRow) → Chain row rows → Ends row → Stacked row (get_or rows 0 blank_row)
+chain_begins row [] h ends = end_stacked row ends
+chain_begins row (next ∷ rows) h ends = h.0
 
 run_on : (rows more : List MatrixRow) → IsRun rows → IsRun more → IsRun (rows ++ more)
 run_on rows more h k row ends =
@@ -64,49 +79,49 @@ run_flat f (x ∷ xs) each = run_on (f x) (flat_map f xs) (each x) (run_flat f x
 run_blank : (n : ℕ) → IsRun (replicate n blank_row)
 run_blank zero row ends = (tt, ends)
 run_blank (suc n) row ends =
-    let rest = run_blank n blank_row (record { devices = refl; no_vdd = refl; no_load = refl; no_stop = refl }) in
-    ((record { devices = ends.devices; load = ends.no_vdd; out = ends.no_load; begun = refl; ended = ends.no_stop }, rest.0), rest.1)
+    let rest = run_blank n blank_row (record { devices = refl; no_vdd = refl; no_load = refl; no_stop = refl; no_middle = refl }) in
+    ((record { leads = record { devices = ends.devices; load = ends.no_vdd; out = ends.no_load; begun = refl; ended = ends.no_stop }; middle = ends.no_middle }, rest.0), rest.1)
 
 run_load : (vdd net : ℕ) → IsRun (load_rows vdd net [])
 run_load vdd net row ends = (
   (
-    record { devices = ends.devices; load = ends.no_vdd; out = ends.no_load; begun = refl; ended = ends.no_stop },
+    record { leads = record { devices = ends.devices; load = ends.no_vdd; out = ends.no_load; begun = refl; ended = ends.no_stop }; middle = ends.no_middle },
     (
-      record { devices = refl; load = refl; out = refl; begun = refl; ended = refl },
-      (record { devices = refl; load = refl; out = refl; begun = refl; ended = refl }, tt),
+      record { leads = record { devices = refl; load = refl; out = refl; begun = refl; ended = refl }; middle = refl },
+      (record { leads = record { devices = refl; load = refl; out = refl; begun = refl; ended = refl }; middle = refl }, tt),
     ),
   ),
-  record { devices = refl; no_vdd = refl; no_load = refl; no_stop = refl },
+  record { devices = refl; no_vdd = refl; no_load = refl; no_stop = refl; no_middle = refl },
 )
 
 run_gate : (vdd gnd out : ℕ) (inputs : List ℕ) → IsRun (gate_rows vdd gnd out inputs)
 run_gate vdd gnd out inputs row ends = (
   (
-    record { devices = ends.devices; load = ends.no_vdd; out = ends.no_load; begun = refl; ended = ends.no_stop },
+    record { leads = record { devices = ends.devices; load = ends.no_vdd; out = ends.no_load; begun = refl; ended = ends.no_stop }; middle = ends.no_middle },
     (
-      record { devices = refl; load = refl; out = refl; begun = refl; ended = refl },
+      record { leads = record { devices = refl; load = refl; out = refl; begun = refl; ended = refl }; middle = refl },
       (
-        record { devices = refl; load = refl; out = refl; begun = refl; ended = refl },
+        record { leads = record { devices = refl; load = refl; out = refl; begun = refl; ended = refl }; middle = refl },
         (
-          record { devices = refl; load = refl; out = refl; begun = refl; ended = refl },
-          (record { devices = refl; load = refl; out = refl; begun = refl; ended = refl }, tt),
+          record { leads = record { devices = refl; load = refl; out = refl; begun = refl; ended = refl }; middle = refl },
+          (record { leads = record { devices = refl; load = refl; out = refl; begun = refl; ended = refl }; middle = refl }, tt),
         ),
       ),
     ),
   ),
-  record { devices = refl; no_vdd = refl; no_load = refl; no_stop = refl },
+  record { devices = refl; no_vdd = refl; no_load = refl; no_stop = refl; no_middle = refl },
 )
 
 run_devices : (top bottom : ℕ) (gated : List ℕ) → IsRun (device_rows top gated bottom)
 run_devices top bottom gated row ends = (
   (
-    record { devices = ends.devices; load = ends.no_vdd; out = ends.no_load; begun = refl; ended = ends.no_stop },
+    record { leads = record { devices = ends.devices; load = ends.no_vdd; out = ends.no_load; begun = refl; ended = ends.no_stop }; middle = ends.no_middle },
     (
-      record { devices = refl; load = refl; out = refl; begun = refl; ended = refl },
-      (record { devices = refl; load = refl; out = refl; begun = refl; ended = refl }, tt),
+      record { leads = record { devices = refl; load = refl; out = refl; begun = refl; ended = refl }; middle = refl },
+      (record { leads = record { devices = refl; load = refl; out = refl; begun = refl; ended = refl }; middle = refl }, tt),
     ),
   ),
-  record { devices = refl; no_vdd = refl; no_load = refl; no_stop = refl },
+  record { devices = refl; no_vdd = refl; no_load = refl; no_stop = refl; no_middle = refl },
 )
 
 -- ---- the rows of a part
@@ -175,8 +190,21 @@ module _ (part : PartTables) where
       let drawn = long_part in
       omega arith
 
-  pub rows_lead_on : (n : ℕ) → (i : ℕ) → i + 1 < length (replicate n blank_row ++ rows_of_part part)
-      → LeadsOn (get_or (replicate n blank_row ++ rows_of_part part) i blank_row) (get_or (replicate n blank_row ++ rows_of_part part) (i + 1) blank_row)
-  rows_lead_on n i below =
-      let run = run_on (replicate n blank_row) (rows_of_part part) (run_blank n) run_of_part blank_row (record { devices = refl; no_vdd = refl; no_load = refl; no_stop = refl }) in
-      chained blank_row (replicate n blank_row ++ rows_of_part part) run.0 i (i + 1) (omega arith) below
+  module _ (n : ℕ) where
+    abbrev drawn_rows : List MatrixRow
+    drawn_rows = replicate n blank_row ++ rows_of_part part
+
+    blank_ends : Ends blank_row
+    blank_ends = record { devices = refl; no_vdd = refl; no_load = refl; no_stop = refl; no_middle = refl }
+
+    whole_run : Chain blank_row drawn_rows × Ends (last_of blank_row drawn_rows)
+    whole_run = run_on (replicate n blank_row) (rows_of_part part) (run_blank n) run_of_part blank_row blank_ends
+
+    pub rows_stacked : (i : ℕ) → i < length drawn_rows → Stacked (get_or drawn_rows i blank_row) (get_or drawn_rows (i + 1) blank_row)
+    rows_stacked i below = chained blank_row drawn_rows whole_run.0 whole_run.1 i (i + 1) (omega arith) below
+
+    pub first_stacked : Stacked blank_row (get_or drawn_rows 0 blank_row)
+    first_stacked = chain_begins blank_row drawn_rows whole_run.0 blank_ends
+
+    pub rows_lead_on : (i : ℕ) → i + 1 < length drawn_rows → LeadsOn (get_or drawn_rows i blank_row) (get_or drawn_rows (i + 1) blank_row)
+    rows_lead_on i below = (rows_stacked i (omega arith)).leads

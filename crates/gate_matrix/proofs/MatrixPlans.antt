@@ -39,7 +39,7 @@ module _ (row : MatrixRow) (last : Bool) where
 
 -- ---- one above another
 
-south_gated : (kind : RowKind) (gated : List ℕ) (i : ℕ) → (goes_south kind && is_gated gated i) ≡ is_gated (gated_south kind gated) i
+pub south_gated : (kind : RowKind) (gated : List ℕ) (i : ℕ) → (goes_south kind && is_gated gated i) ≡ is_gated (gated_south kind gated) i
 south_gated Start gated i = refl
 south_gated Through gated i = refl
 south_gated Stop gated i = refl
@@ -50,7 +50,7 @@ south_gated Top gated i = refl
 south_gated Middle gated i = refl
 south_gated Bottom gated i = refl
 
-north_gated : (kind : RowKind) (gated : List ℕ) (i : ℕ) → (goes_north kind && is_gated gated i) ≡ is_gated (gated_north kind gated) i
+pub north_gated : (kind : RowKind) (gated : List ℕ) (i : ℕ) → (goes_north kind && is_gated gated i) ≡ is_gated (gated_north kind gated) i
 north_gated Start gated i = refl
 north_gated Through gated i = refl
 north_gated Stop gated i = refl

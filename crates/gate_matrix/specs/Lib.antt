@@ -5,3 +5,4 @@ pub mod Cells
 pub mod Matrices
 pub mod PartRows
 pub mod Drawn
+pub mod Modules

@@ -1,12 +1,23 @@
 //! What gate matrices are. Each law is the contract of a function that runs nothing.
 
 ghost use Rattle.gate_matrix.specs.Matrices.{MatricesArePlans};
+ghost use Rattle.gate_matrix.specs.Modules.{PartsAreModules};
 
 use micro_tiles::laws::basic_tiles_are_named;
+use stick_grid::laws::names_are_nets;
 
 /// Rows that lead on to one another, over columns for nets, make a plan of tiles.
 pub fn matrices_are_plans()
     ensures { MatricesArePlans }
 {
     basic_tiles_are_named();
+}
+
+/// The tiles of a part make its network: each of their nets is a net of the part, joined with all that has its name, the devices
+/// are the part's, and each net's poly leads out in its column, to the north and to the south.
+pub fn parts_are_modules()
+    ensures { PartsAreModules }
+{
+    matrices_are_plans();
+    names_are_nets();
 }
