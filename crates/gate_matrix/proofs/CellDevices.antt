@@ -23,7 +23,8 @@ use Rattle.gate_matrix.specs.Modules.{net_among}
 
 -- ---- lists, entry by entry
 
-pub matched_append : {X Y : Type 0} (R : X → Y → Type 0) (xs us : List X) (ys vs : List Y) → Matched R xs ys → Matched R us vs → Matched R (xs ++ us) (ys ++ vs)
+pub matched_append : {X Y : Type 0} (R : X → Y → Type 0) (xs us : List X) (ys vs : List Y) → Matched R xs ys → Matched R us vs
+    → Matched R (xs ++ us) (ys ++ vs)
 matched_append R [] us [] vs h k = k
 matched_append R [] us (y ∷ ys) vs h k = absurd h
 matched_append R (x ∷ xs) us [] vs h k = absurd h
@@ -116,7 +117,8 @@ module _ (name : Piece → ℕ) (vdd r c : ℕ) where
     wire_has Bottom true gated = tt
     wire_has Bottom false gated = tt
 
-    device_has : (i : ℕ) (kind : RowKind) (gated last onward : Bool) → ((n : ℕ) → name (piece r c n) ≡ net_among (columns.Device i) above here below n)
+    device_has : (i : ℕ) (kind : RowKind) (gated last onward : Bool)
+        → ((n : ℕ) → name (piece r c n) ≡ net_among (columns.Device i) above here below n)
         → has (number_named (device_cell kind gated last onward)) (pass_device kind gated i above below)
     unfolding design_of
     device_has i Middle true last onward names = (
@@ -169,7 +171,8 @@ module _ (name : Piece → ℕ) (vdd r c : ℕ) where
     free_has Bottom true false = tt
     free_has Bottom true true = tt
 
-    pub cell_has : (row : MatrixRow) (k : Column) (last : Bool) → (row.kind ≡ Load → above ≡ vdd) → ((n : ℕ) → name (piece r c n) ≡ net_among k above here below n)
+    pub cell_has : (row : MatrixRow) (k : Column) (last : Bool) → (row.kind ≡ Load → above ≡ vdd)
+        → ((n : ℕ) → name (piece r c n) ≡ net_among k above here below n)
         → has (number_named (cell row k last)) (cell_device row.kind row.gated above below k)
     cell_has row columns.Load last supply names = load_has row.kind supply names
     cell_has row columns.Gate last supply names = gate_has row.kind

@@ -111,7 +111,8 @@ module _ (side : Side) (layer : Layer) where
   gate_net Bottom h = inl (refl, zero_net tiles.MetalEastWest side layer h refl)
 
   wire_nets : (kind : RowKind) (meets gated : Bool) → Carries (port (wire_cell kind meets gated) side) layer
-      → ((has_metal kind ≡ true) × (net (wire_cell kind meets gated) side layer ≡ 0)) ⊎ (net (wire_cell kind meets gated) side layer ≡ wire_net kind meets)
+      → ((has_metal kind ≡ true) × (net (wire_cell kind meets gated) side layer ≡ 0)) ⊎
+      (net (wire_cell kind meets gated) side layer ≡ wire_net kind meets)
   unfolding design_of
   wire_nets Start meets gated h = inr (one_net tiles.PolySouth side layer h refl)
   wire_nets Through meets gated h = inr (one_net tiles.PolyNorthSouth side layer h refl)
@@ -146,7 +147,8 @@ module _ (side : Side) (layer : Layer) where
 
   device_nets : (kind : RowKind) (gated last onward : Bool) → Carries (port (device_cell kind gated last onward) side) layer
       → ((has_metal kind ≡ true) × (net (device_cell kind gated last onward) side layer ≡ 0))
-      ⊎ ((kind ≡ Middle) × (gated ≡ true) × ((net (device_cell kind gated last onward) side layer ≡ 1) ⊎ ((net (device_cell kind gated last onward) side layer ≡ 2) ⊎ (net (device_cell kind gated last onward) side layer ≡ 3))))
+      ⊎ ((kind ≡ Middle) × (gated ≡ true) × ((net (device_cell kind gated last onward) side layer ≡ 1) ⊎
+      ((net (device_cell kind gated last onward) side layer ≡ 2) ⊎ (net (device_cell kind gated last onward) side layer ≡ 3))))
   unfolding design_of
   device_nets Start gated last onward h = no_net tiles.Empty side layer h refl
   device_nets Through gated last onward h = no_net tiles.Empty side layer h refl

@@ -79,13 +79,26 @@ run_flat f (x ∷ xs) each = run_on (f x) (flat_map f xs) (each x) (run_flat f x
 run_blank : (n : ℕ) → IsRun (replicate n blank_row)
 run_blank zero row ends = (tt, ends)
 run_blank (suc n) row ends =
-    let rest = run_blank n blank_row (record { devices = refl; no_vdd = refl; no_load = refl; no_stop = refl; no_middle = refl }) in
-    ((record { leads = record { devices = ends.devices; load = ends.no_vdd; out = ends.no_load; begun = refl; ended = ends.no_stop }; middle = ends.no_middle }, rest.0), rest.1)
+    let rest = run_blank n blank_row (record { devices = refl; no_vdd = refl; no_load = refl; no_stop = refl; no_middle = refl }) in (
+      (
+        record {
+          leads = record { devices = ends.devices; load = ends.no_vdd; out = ends.no_load; begun = refl; ended = ends.no_stop };
+          middle =
+              ends.no_middle;
+        },
+        rest.0,
+      ),
+      rest.1,
+    )
 
 run_load : (vdd net : ℕ) → IsRun (load_rows vdd net [])
 run_load vdd net row ends = (
   (
-    record { leads = record { devices = ends.devices; load = ends.no_vdd; out = ends.no_load; begun = refl; ended = ends.no_stop }; middle = ends.no_middle },
+    record {
+      leads = record { devices = ends.devices; load = ends.no_vdd; out = ends.no_load; begun = refl; ended = ends.no_stop };
+      middle =
+          ends.no_middle;
+    },
     (
       record { leads = record { devices = refl; load = refl; out = refl; begun = refl; ended = refl }; middle = refl },
       (record { leads = record { devices = refl; load = refl; out = refl; begun = refl; ended = refl }; middle = refl }, tt),
@@ -97,7 +110,11 @@ run_load vdd net row ends = (
 run_gate : (vdd gnd out : ℕ) (inputs : List ℕ) → IsRun (gate_rows vdd gnd out inputs)
 run_gate vdd gnd out inputs row ends = (
   (
-    record { leads = record { devices = ends.devices; load = ends.no_vdd; out = ends.no_load; begun = refl; ended = ends.no_stop }; middle = ends.no_middle },
+    record {
+      leads = record { devices = ends.devices; load = ends.no_vdd; out = ends.no_load; begun = refl; ended = ends.no_stop };
+      middle =
+          ends.no_middle;
+    },
     (
       record { leads = record { devices = refl; load = refl; out = refl; begun = refl; ended = refl }; middle = refl },
       (
@@ -115,7 +132,11 @@ run_gate vdd gnd out inputs row ends = (
 run_devices : (top bottom : ℕ) (gated : List ℕ) → IsRun (device_rows top gated bottom)
 run_devices top bottom gated row ends = (
   (
-    record { leads = record { devices = ends.devices; load = ends.no_vdd; out = ends.no_load; begun = refl; ended = ends.no_stop }; middle = ends.no_middle },
+    record {
+      leads = record { devices = ends.devices; load = ends.no_vdd; out = ends.no_load; begun = refl; ended = ends.no_stop };
+      middle =
+          ends.no_middle;
+    },
     (
       record { leads = record { devices = refl; load = refl; out = refl; begun = refl; ended = refl }; middle = refl },
       (record { leads = record { devices = refl; load = refl; out = refl; begun = refl; ended = refl }; middle = refl }, tt),
@@ -128,9 +149,11 @@ run_devices top bottom gated row ends = (
 
 module _ (part : PartTables) where
   run_of_gate : (earlier : List NorGate) (gate : NorGate) (t : Bool) → has_load part earlier gate ≡ t → IsRun (rows_of_gate part earlier gate)
-  run_of_gate earlier gate true e = subst (λ t. IsRun (if t then gate_rows part.vdd part.gnd gate.out gate.inputs else device_rows gate.out gate.inputs part.gnd)) (sym e)
+  run_of_gate earlier gate true e = subst (λ t. IsRun
+      (if t then gate_rows part.vdd part.gnd gate.out gate.inputs else device_rows gate.out gate.inputs part.gnd)) (sym e)
       (run_gate part.vdd part.gnd gate.out gate.inputs)
-  run_of_gate earlier gate false e = subst (λ t. IsRun (if t then gate_rows part.vdd part.gnd gate.out gate.inputs else device_rows gate.out gate.inputs part.gnd)) (sym e)
+  run_of_gate earlier gate false e = subst (λ t. IsRun
+      (if t then gate_rows part.vdd part.gnd gate.out gate.inputs else device_rows gate.out gate.inputs part.gnd)) (sym e)
       (run_devices gate.out part.gnd gate.inputs)
 
   run_of_gates : (earlier gates : List NorGate) → IsRun (rows_of_gates part earlier gates)
@@ -150,7 +173,8 @@ module _ (part : PartTables) where
 
   -- ---- how many they are
 
-  long_gate : (earlier : List NorGate) (gate : NorGate) (t : Bool) → has_load part earlier gate ≡ t → length (rows_of_gate part earlier gate) ≡ height_of_gate part earlier gate
+  long_gate : (earlier : List NorGate) (gate : NorGate) (t : Bool) → has_load part earlier gate ≡ t
+      → length (rows_of_gate part earlier gate) ≡ height_of_gate part earlier gate
   long_gate earlier gate true e = rw e refl
   long_gate earlier gate false e = rw e refl
 
@@ -179,7 +203,8 @@ module _ (part : PartTables) where
       let gates = long_gates [] part.gates in
       let loads = long_loads part.loads in
       let transfers = long_transfers part.transfers in
-      let whole = length-append (rows_of_gates part [] part.gates ++ flat_map (rows_of_load part) part.loads) (flat_map (rows_of_transfer part) part.transfers) in
+      let whole = length-append (rows_of_gates part [] part.gates ++ flat_map (rows_of_load part) part.loads)
+      (flat_map (rows_of_transfer part) part.transfers) in
       let front = length-append (rows_of_gates part [] part.gates) (flat_map (rows_of_load part) part.loads) in
       omega arith
 

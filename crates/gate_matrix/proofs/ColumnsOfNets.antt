@@ -21,7 +21,8 @@ wire_from (a ∷ at) cols first net (suc i) w few =
     beyond a at net (column_for at i) (λ e. omega arith) (λ e. omega arith)
     ∙ wire_from at cols (a + 2) (suc net) i w.1 (omega arith) ∙ ap (λ (n : ℕ). Wire n) (omega arith)
 
-device_from : (at : List ℕ) (cols first net i : ℕ) → AreWiresFrom first at cols → i < length at → wire_column at net (column_for at i + 1) ≡ Device (net + i)
+device_from : (at : List ℕ) (cols first net i : ℕ) → AreWiresFrom first at cols → i < length at
+    → wire_column at net (column_for at i + 1) ≡ Device (net + i)
 device_from [] cols first net i w few = absurd (omega arith)
 device_from (a ∷ at) cols first net zero w few = device_here a at net (a + 1) refl ∙ ap (λ (n : ℕ). Device n) (omega arith)
 device_from (a ∷ at) cols first net (suc i) w few =

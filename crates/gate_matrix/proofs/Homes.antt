@@ -75,10 +75,12 @@ module _ (row : MatrixRow) (last : Bool) where
       subst (λ (c : Column). wire_net row.kind (row.metal == i) ≡ net (cell row c last) North Poly) (sym e)
       (sym (wire_number row.kind (row.metal == i) (is_gated row.gated i) North))
 
-  branch_east : (k : Column) (i : ℕ) → k ≡ columns.Wire i → row.kind ≡ Middle → is_gated row.gated i ≡ true → Leads row k last East Poly (wire_net row.kind (row.metal == i))
+  branch_east : (k : Column) (i : ℕ) → k ≡ columns.Wire i → row.kind ≡ Middle → is_gated row.gated i ≡ true
+      → Leads row k last East Poly (wire_net row.kind (row.metal == i))
   branch_east k i e m g =
       subst (λ (c : Column). Leads row c last East Poly (wire_net row.kind (row.metal == i))) (sym e) (record {
-        carried = ap (λ (q : Port). q.other) (ports.wire_east row.kind (row.metal == i) (is_gated row.gated i)) ∙ branched row.kind (is_gated row.gated i) m g;
+        carried = ap (λ (q : Port). q.other) (ports.wire_east row.kind (row.metal == i) (is_gated row.gated i))
+            ∙ branched row.kind (is_gated row.gated i) m g;
         number = sym (wire_number row.kind (row.metal == i) (is_gated row.gated i) East);
       })
     where
@@ -87,14 +89,16 @@ module _ (row : MatrixRow) (last : Bool) where
 
   -- a cell of devices, by its kind and whether it has one
   module _ (k : Column) (i : ℕ) (is : k ≡ columns.Device i) (gated : is_gated row.gated i ≡ true) where
-    device_number : (kind : RowKind) → row.kind ≡ kind → (side : Side) (layer : Layer) (n : ℕ) → n ≡ net (device_cell kind true last row.onward) side layer
+    device_number : (kind : RowKind) → row.kind ≡ kind → (side : Side) (layer : Layer) (n : ℕ)
+        → n ≡ net (device_cell kind true last row.onward) side layer
         → n ≡ net (cell row k last) side layer
     device_number kind e side layer n h =
         subst (λ (c : Column). n ≡ net (cell row c last) side layer) (sym is)
         (subst (λ (t : Bool). n ≡ net (device_cell row.kind t last row.onward) side layer) (sym gated)
         (subst (λ (v : RowKind). n ≡ net (device_cell v true last row.onward) side layer) (sym e) h))
 
-    device_south : (kind : RowKind) → row.kind ≡ kind → ports.goes_south kind ≡ true → (n : ℕ) → n ≡ net (device_cell kind true last row.onward) South Diffusion
+    device_south : (kind : RowKind) → row.kind ≡ kind → ports.goes_south kind ≡ true → (n : ℕ)
+        → n ≡ net (device_cell kind true last row.onward) South Diffusion
         → Leads row k last South Diffusion n
     device_south kind e goes n h = record {
       carried =
@@ -104,28 +108,35 @@ module _ (row : MatrixRow) (last : Bool) where
       number = device_number kind e South Diffusion n h;
     }
       where
-        narrowed : (v : RowKind) (t : Bool) → ports.goes_south v ≡ true → t ≡ true → cond (ports.goes_south v && t) (Some Diffusion) None ≡ Some Diffusion
+        narrowed : (v : RowKind) (t : Bool) → ports.goes_south v ≡ true → t ≡ true
+            → cond (ports.goes_south v && t) (Some Diffusion) None ≡ Some Diffusion
         narrowed v t f g = rw (f, g) refl
 
-  load_number : (k : Column) → k ≡ columns.Load → (kind : RowKind) → row.kind ≡ kind → (side : Side) (layer : Layer) (n : ℕ) → n ≡ net (load_cell kind) side layer
+  load_number : (k : Column) → k ≡ columns.Load → (kind : RowKind) → row.kind ≡ kind → (side : Side) (layer : Layer) (n : ℕ)
+      → n ≡ net (load_cell kind) side layer
       → n ≡ net (cell row k last) side layer
   load_number k is kind e side layer n h =
       subst (λ (c : Column). n ≡ net (cell row c last) side layer) (sym is) (subst (λ (v : RowKind). n ≡ net (load_cell v) side layer) (sym e) h)
 
-  load_other : (k : Column) → k ≡ columns.Load → (kind : RowKind) → row.kind ≡ kind → (side : Side) (layer : Layer) → (port (load_cell kind) side).other ≡ Some layer
+  load_other : (k : Column) → k ≡ columns.Load → (kind : RowKind) → row.kind ≡ kind → (side : Side) (layer : Layer)
+      → (port (load_cell kind) side).other ≡ Some layer
       → (port (cell row k last) side).other ≡ Some layer
   load_other k is kind e side layer h =
-      subst (λ (c : Column). (port (cell row c last) side).other ≡ Some layer) (sym is) (subst (λ (v : RowKind). (port (load_cell v) side).other ≡ Some layer) (sym e) h)
+      subst (λ (c : Column). (port (cell row c last) side).other ≡ Some layer) (sym is)
+      (subst (λ (v : RowKind). (port (load_cell v) side).other ≡ Some layer) (sym e) h)
 
-  gate_number : (k : Column) → k ≡ columns.Gate → (kind : RowKind) → row.kind ≡ kind → (side : Side) (layer : Layer) (n : ℕ) → n ≡ net (gate_cell kind) side layer
+  gate_number : (k : Column) → k ≡ columns.Gate → (kind : RowKind) → row.kind ≡ kind → (side : Side) (layer : Layer) (n : ℕ)
+      → n ≡ net (gate_cell kind) side layer
       → n ≡ net (cell row k last) side layer
   gate_number k is kind e side layer n h =
       subst (λ (c : Column). n ≡ net (cell row c last) side layer) (sym is) (subst (λ (v : RowKind). n ≡ net (gate_cell v) side layer) (sym e) h)
 
-  gate_other : (k : Column) → k ≡ columns.Gate → (kind : RowKind) → row.kind ≡ kind → (side : Side) (layer : Layer) → (port (gate_cell kind) side).other ≡ Some layer
+  gate_other : (k : Column) → k ≡ columns.Gate → (kind : RowKind) → row.kind ≡ kind → (side : Side) (layer : Layer)
+      → (port (gate_cell kind) side).other ≡ Some layer
       → (port (cell row k last) side).other ≡ Some layer
   gate_other k is kind e side layer h =
-      subst (λ (c : Column). (port (cell row c last) side).other ≡ Some layer) (sym is) (subst (λ (v : RowKind). (port (gate_cell v) side).other ≡ Some layer) (sym e) h)
+      subst (λ (c : Column). (port (cell row c last) side).other ≡ Some layer) (sym is)
+      (subst (λ (v : RowKind). (port (gate_cell v) side).other ≡ Some layer) (sym e) h)
 
 vdd_carries : (port (load_cell Vdd) South).other ≡ Some Diffusion
 unfolding design_of
@@ -231,8 +242,10 @@ module _ (matrix : Matrix) (is : IsStack matrix) where
     pub is_wire : column_at (column_for matrix.at i) ≡ columns.Wire i
     is_wire = wire_of matrix.at matrix.cols i is.columns few
 
-    wire_leads : (r : ℕ) → r < height → Leads (row_at matrix r) (column_at (column_for matrix.at i)) (is_last (column_for matrix.at i)) South Poly (wire_net (kind_at r) ((row_at matrix r).metal == i))
-    wire_leads r below = wire_south (row_at matrix r) (is_last (column_for matrix.at i)) (column_at (column_for matrix.at i)) i is_wire (is.south r below).leads.ended
+    wire_leads : (r : ℕ) → r < height → Leads (row_at matrix r) (column_at (column_for matrix.at i)) (is_last (column_for matrix.at i)) South Poly
+        (wire_net (kind_at r) ((row_at matrix r).metal == i))
+    wire_leads r below = wire_south (row_at matrix r) (is_last (column_for matrix.at i)) (column_at (column_for matrix.at i)) i is_wire
+        (is.south r below).leads.ended
 
     wire_step : (r : ℕ) → r + 1 < height → MeetsAtSouth plan (wire_piece r i) (wire_piece (r + 1) i)
     wire_step r below =
@@ -253,7 +266,8 @@ module _ (matrix : Matrix) (is : IsStack matrix) where
 
     pub wire_named : (r : ℕ) → matrix_name matrix (wire_piece r i) ≡ i
     wire_named r =
-        ap (λ (k : Column). net_among k (metal_in matrix (r - 1)) (metal_in matrix r) (metal_in matrix (r + 1)) (wire_net (kind_at r) ((row_at matrix r).metal == i))) is_wire
+        ap (λ (k : Column). net_among k (metal_in matrix (r - 1)) (metal_in matrix r) (metal_in matrix (r + 1))
+        (wire_net (kind_at r) ((row_at matrix r).metal == i))) is_wire
         ∙ wire_name (kind_at r) i (metal_in matrix (r - 1)) (metal_in matrix r) (metal_in matrix (r + 1))
 
   -- ---- to the home
@@ -272,14 +286,16 @@ module _ (matrix : Matrix) (is : IsStack matrix) where
         paths.on (piece r c 0) (piece r 0 0) (home i) (to_west r c is_row is_col m) (paths.on (piece r 0 0) (piece r here 0) (home i) back at_wire)
 
     -- the metal of the row above, and of the row below
-    from_above : (r c n : ℕ) (row_exists : r + 1 < height) → MeetsAtSouth plan (piece r c 0) (piece (r + 1) c n) → has_metal (kind_at r) ≡ true → c < matrix.cols
+    from_above : (r c n : ℕ) (row_exists : r + 1 < height) → MeetsAtSouth plan (piece r c 0) (piece (r + 1) c n) → has_metal (kind_at r) ≡ true
+        → c < matrix.cols
         → Connected plan (piece (r + 1) c n) (home (metal_in matrix (r + 1 - 1)))
     from_above r c n row_exists meets m is_col =
         let e : r ≡ r + 1 - 1 = omega arith in
         subst (λ (s : ℕ). Connected plan (piece (r + 1) c n) (home (metal_in matrix s))) e
         (north (piece (r + 1) c n) (piece r c 0) (home (metal_in matrix r)) meets (metal_home r c (omega arith) is_col m))
 
-    from_below : (r c n : ℕ) (row_exists : r + 1 < height) → MeetsAtSouth plan (piece r c n) (piece (r + 1) c 0) → has_metal (kind_at (r + 1)) ≡ true → c < matrix.cols
+    from_below : (r c n : ℕ) (row_exists : r + 1 < height) → MeetsAtSouth plan (piece r c n) (piece (r + 1) c 0)
+        → has_metal (kind_at (r + 1)) ≡ true → c < matrix.cols
         → Connected plan (piece r c n) (home (metal_in matrix (r + 1)))
     from_below r c n row_exists meets m is_col =
         south (piece r c n) (piece (r + 1) c 0) (home (metal_in matrix (r + 1))) meets (metal_home (r + 1) c row_exists is_col m)
@@ -292,7 +308,8 @@ module _ (matrix : Matrix) (is : IsStack matrix) where
       top_meets r below m g =
           let upper = row_at matrix r in
           let over = over_middle upper (row_at matrix (r + 1)) (is.south r (omega arith)) i m g in
-          let number = device_number (row_at matrix (r + 1)) (is_last c) (column_at c) i k g Middle m North Diffusion 2 (sym (meetings.pass_top (is_last c) (row_at matrix (r + 1)).onward)) in
+          let number = device_number (row_at matrix (r + 1)) (is_last c) (column_at c) i k g Middle m North Diffusion 2
+          (sym (meetings.pass_top (is_last c) (row_at matrix (r + 1)).onward)) in
           elim over.0 [
             | inl e ↦ (
               meets_south r c 0 2 Diffusion below in_c
@@ -306,7 +323,8 @@ module _ (matrix : Matrix) (is : IsStack matrix) where
             )
           ]
 
-      top_home : (r : ℕ) → r < height → kind_at r ≡ Middle → is_gated (row_at matrix r).gated i ≡ true → Connected plan (piece r c 2) (home (metal_in matrix (r - 1)))
+      top_home : (r : ℕ) → r < height → kind_at r ≡ Middle → is_gated (row_at matrix r).gated i ≡ true
+          → Connected plan (piece r c 2) (home (metal_in matrix (r - 1)))
       top_home zero below m g =
           let over = over_middle blank_row (row_at matrix 0) is.north i m g in
           absurd (elim over.0 [ inl e ↦ cc | inr e ↦ cc ])
@@ -317,7 +335,8 @@ module _ (matrix : Matrix) (is : IsStack matrix) where
           let meets = top_meets r (omega arith) m' g' in
           subst (λ (s : ℕ). Connected plan (piece s c 2) (home (metal_in matrix (s - 1)))) n (from_above r c 2 (omega arith) meets.0 meets.1 in_c)
 
-      bottom_home : (r : ℕ) → r < height → kind_at r ≡ Middle → is_gated (row_at matrix r).gated i ≡ true → Connected plan (piece r c 3) (home (metal_in matrix (r + 1)))
+      bottom_home : (r : ℕ) → r < height → kind_at r ≡ Middle → is_gated (row_at matrix r).gated i ≡ true
+          → Connected plan (piece r c 3) (home (metal_in matrix (r + 1)))
       bottom_home r below m g =
           let upper = row_at matrix r in
           let lower = row_at matrix (r + 1) in
@@ -327,7 +346,8 @@ module _ (matrix : Matrix) (is : IsStack matrix) where
           from_below r c 3 there
           (meets_south r c 3 0 Diffusion there in_c
           (device_south upper (is_last c) (column_at c) i k g Middle m refl 3 (sym (meetings.pass_bottom (is_last c) upper.onward)))
-          (device_number lower (is_last c) (column_at c) i k (gated_below_middle upper lower stacked i m g) Bottom e North Diffusion 0 (sym (meetings.bottom_number (is_last c) lower.onward))))
+          (device_number lower (is_last c) (column_at c) i k (gated_below_middle upper lower stacked i m g) Bottom e North Diffusion 0
+          (sym (meetings.bottom_number (is_last c) lower.onward))))
           (ap has_metal e) in_c
 
       gate_home : (r : ℕ) → r < height → kind_at r ≡ Middle → is_gated (row_at matrix r).gated i ≡ true → Connected plan (piece r c 1) (home i)
@@ -338,7 +358,8 @@ module _ (matrix : Matrix) (is : IsStack matrix) where
           let w = column_for matrix.at i in
           let next : w + 1 ≡ c = of.1 in
           let number : 1 ≡ net (cell row (column_at (w + 1)) (is_last (w + 1))) West Poly =
-          device_number row (is_last (w + 1)) (column_at (w + 1)) i (ap column_at next ∙ k) g Middle m West Poly 1 (sym (meetings.pass_gate (is_last (w + 1)) row.onward)) in
+          device_number row (is_last (w + 1)) (column_at (w + 1)) i (ap column_at next
+          ∙ k) g Middle m West Poly 1 (sym (meetings.pass_gate (is_last (w + 1)) row.onward)) in
           let meets = meets_east r w (wire_net row.kind (row.metal == i)) 1 Poly below (omega arith)
           (branch_east row (is_last w) (column_at w) i (is_wire i few) m g) number in
           subst (λ (n : ℕ). Connected plan (piece r n 1) (home i)) next
@@ -422,9 +443,11 @@ module _ (matrix : Matrix) (is : IsStack matrix) where
         → Connected plan (piece r c n) (home (named r (column_at c) n))
     renamed r c n m k name e f g path =
         let whole : named r (column_at c) n ≡ name = ap (named r (column_at c)) e ∙ ap (λ (j : Column). named r j m) f ∙ g in
-        subst (λ (x : ℕ). Connected plan (piece r c n) (home x)) (sym whole) (subst (λ (x : ℕ). Connected plan (piece r c x) (home name)) (sym e) path)
+        subst (λ (x : ℕ). Connected plan (piece r c n) (home x)) (sym whole)
+        (subst (λ (x : ℕ). Connected plan (piece r c x) (home name)) (sym e) path)
 
-    pub leads_home : (r c n : ℕ) → r < height → c < matrix.cols → CellNet (row_at matrix r) (column_at c) n → Connected plan (piece r c n) (home (named r (column_at c) n))
+    pub leads_home : (r c n : ℕ) → r < height → c < matrix.cols → CellNet (row_at matrix r) (column_at c) n
+        → Connected plan (piece r c n) (home (named r (column_at c) n))
     leads_home r c n is_row is_col (metal m e) = renamed r c n 0 (column_at c) (metal_in matrix r) e refl refl (metal_home r c is_row is_col m)
     leads_home r c n is_row is_col (wire i k e) =
         let of = of_wire matrix.at i c k in
@@ -432,8 +455,10 @@ module _ (matrix : Matrix) (is : IsStack matrix) where
         renamed r c n number (columns.Wire i) i e k (wire_name (kind_at r) i (metal_in matrix (r - 1)) (metal_in matrix r) (metal_in matrix (r + 1)))
         (subst (λ (x : ℕ). Connected plan (piece r x number) (home i)) of.1 (climbs i of.0 r is_row))
     leads_home r c n is_row is_col (gate i k m g e) = renamed r c n 1 (columns.Device i) i e k refl (gate_home c i is_col k r is_row m g)
-    leads_home r c n is_row is_col (top i k m g e) = renamed r c n 2 (columns.Device i) (metal_in matrix (r - 1)) e k refl (top_home c i is_col k r is_row m g)
-    leads_home r c n is_row is_col (bottom i k m g e) = renamed r c n 3 (columns.Device i) (metal_in matrix (r + 1)) e k refl (bottom_home c i is_col k r is_row m g)
+    leads_home r c n is_row is_col (top i k m g e) =
+        renamed r c n 2 (columns.Device i) (metal_in matrix (r - 1)) e k refl (top_home c i is_col k r is_row m g)
+    leads_home r c n is_row is_col (bottom i k m g e) =
+        renamed r c n 3 (columns.Device i) (metal_in matrix (r + 1)) e k refl (bottom_home c i is_col k r is_row m g)
     leads_home r c n is_row is_col (load_gate k m e) =
         renamed r c n 1 columns.Load (metal_in matrix (r + 1)) e k refl
         (subst (λ (x : ℕ). Connected plan (piece r x 1) (home (metal_in matrix (r + 1)))) (sym (of_load matrix.at c k)) (load_gate_home r is_row m))

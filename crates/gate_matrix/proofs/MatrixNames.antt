@@ -41,19 +41,22 @@ module _ (matrix : Matrix) (is : IsStack matrix) where
       let e : r ≡ suc r - 1 = omega arith in
       subst (λ (s : ℕ). metal_in matrix s < length matrix.at) e (below_metal r Vdd v (λ f. cc) refl)
 
-  above_middle : (r i : ℕ) → r < length matrix.rows → kind_at r ≡ Middle → is_gated (row_at matrix r).gated i ≡ true → metal_in matrix (r - 1) < length matrix.at
+  above_middle : (r i : ℕ) → r < length matrix.rows → kind_at r ≡ Middle → is_gated (row_at matrix r).gated i ≡ true
+      → metal_in matrix (r - 1) < length matrix.at
   above_middle zero i below m g =
       let over = over_middle blank_row (row_at matrix 0) is.north i m g in
       absurd (elim over.0 [ inl e ↦ cc | inr e ↦ cc ])
   above_middle (suc r) i below m g =
       let n : r + 1 ≡ suc r = omega arith in
-      let over = over_middle (row_at matrix r) (row_at matrix (r + 1)) (is.south r (omega arith)) i (ap kind_at n ∙ m) (ap (λ (s : ℕ). is_gated (row_at matrix s).gated i) n ∙ g) in
+      let over = over_middle (row_at matrix r) (row_at matrix (r + 1)) (is.south r (omega arith)) i (ap kind_at n
+      ∙ m) (ap (λ (s : ℕ). is_gated (row_at matrix s).gated i) n ∙ g) in
       let e : r ≡ suc r - 1 = omega arith in
       subst (λ (s : ℕ). metal_in matrix s < length matrix.at) e
       (elim over.0 [ inl o ↦ below_metal r Out o (λ f. cc) refl | inr t ↦ below_metal r Top t (λ f. cc) refl ])
 
   under_middle_metal : (r : ℕ) → r < length matrix.rows → kind_at r ≡ Middle → metal_in matrix (r + 1) < length matrix.at
-  under_middle_metal r below m = below_metal (r + 1) Bottom (under_middle (row_at matrix r) (row_at matrix (r + 1)) (is.south r below) m) (λ f. cc) refl
+  under_middle_metal r below m = below_metal (r + 1) Bottom (under_middle (row_at matrix r) (row_at matrix (r + 1)) (is.south r below) m)
+      (λ f. cc) refl
 
   under_load_metal : (r : ℕ) → r < length matrix.rows → kind_at r ≡ Load → metal_in matrix (r + 1) < length matrix.at
   under_load_metal r below m = below_metal (r + 1) Out (under_load (row_at matrix r) (row_at matrix (r + 1)) (is.south r below) m) (λ f. cc) refl
@@ -67,10 +70,12 @@ module _ (matrix : Matrix) (is : IsStack matrix) where
       let whole : named r (column_of matrix.at c) n ≡ name = ap (named r (column_of matrix.at c)) e ∙ ap (λ (j : Column). named r j m) f ∙ g in
       subst (λ (x : ℕ). x < length matrix.at) (sym whole) h
 
-  name_below : (r c n : ℕ) → r < length matrix.rows → CellNet (row_at matrix r) (column_of matrix.at c) n → named r (column_of matrix.at c) n < length matrix.at
+  name_below : (r c n : ℕ) → r < length matrix.rows → CellNet (row_at matrix r) (column_of matrix.at c) n
+      → named r (column_of matrix.at c) n < length matrix.at
   name_below r c n is_row (metal m e) = is_below r c n 0 (column_of matrix.at c) (metal_in matrix r) e refl refl (is.metals r is_row m)
   name_below r c n is_row (wire i k e) =
-      is_below r c n _ (columns.Wire i) i e k (wire_name (kind_at r) i (metal_in matrix (r - 1)) (metal_in matrix r) (metal_in matrix (r + 1))) (of_wire matrix.at i c k).0
+      is_below r c n _ (columns.Wire i) i e k (wire_name (kind_at r) i (metal_in matrix (r - 1)) (metal_in matrix r) (metal_in matrix (r + 1)))
+      (of_wire matrix.at i c k).0
   name_below r c n is_row (gate i k m g e) = is_below r c n 1 (columns.Device i) i e k refl (of_device matrix.at i c k).0
   name_below r c n is_row (top i k m g e) = is_below r c n 2 (columns.Device i) (metal_in matrix (r - 1)) e k refl (above_middle r i is_row m g)
   name_below r c n is_row (bottom i k m g e) = is_below r c n 3 (columns.Device i) (metal_in matrix (r + 1)) e k refl (under_middle_metal r is_row m)
@@ -122,10 +127,12 @@ module _ (matrix : Matrix) (is : IsStack matrix) where
       ∙ ap (λ (s : ℕ). net (cell (row_at matrix s) (column_of matrix.at b.col) (b.col + 1 == matrix.cols)) North h.layer) h.row
       ∙ ap (λ (s : ℕ). net (cell lower (column_of matrix.at s) (s + 1 == matrix.cols)) North h.layer) h.col in
       let below : r < length matrix.rows = (let row = h.row in let b_row = h.is_row in omega arith) in
-      let names = meetings.southward upper lower (is.south r below) last (metal_in matrix (r - 1)) (metal_in matrix (r + 1 + 1)) k h.layer h.carried in
+      let names = meetings.southward upper lower (is.south r below) last (metal_in matrix (r - 1))
+      (metal_in matrix (r + 1 + 1)) k h.layer h.carried in
       let e : r + 1 - 1 ≡ r = omega arith in
       ap (named r k) h.first ∙ names
-      ∙ ap (λ (s : ℕ). net_among k (metal_in matrix s) (metal_in matrix (r + 1)) (metal_in matrix (r + 1 + 1)) (net (cell lower k last) North h.layer)) (sym e)
+      ∙ ap (λ (s : ℕ). net_among k (metal_in matrix s) (metal_in matrix (r + 1)) (metal_in matrix (r + 1 + 1))
+      (net (cell lower k last) North h.layer)) (sym e)
       ∙ ap (named (r + 1) k) (sym second)
       ∙ ap (λ (s : ℕ). named (r + 1) (column_of matrix.at s) b.net) (sym h.col)
       ∙ ap (λ (s : ℕ). named s (column_of matrix.at b.col) b.net) (sym h.row)

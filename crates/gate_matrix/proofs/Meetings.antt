@@ -163,12 +163,14 @@ module _ (row : MatrixRow) (last : Bool) (above here below : ℕ) where
   agree_east j k layer = name_at row j false East layer above here below ≡ name_at row k last West layer above here below
 
   at_loads : (kind : RowKind) → kind ≡ Load → (layer : Layer) → layer ≡ Poly
-      → net_among columns.Load above here below (net (load_cell kind) East layer) ≡ net_among columns.Gate above here below (net (gate_cell kind) West layer)
+      → net_among columns.Load above here below (net (load_cell kind) East layer) ≡ net_among columns.Gate above here below
+      (net (gate_cell kind) West layer)
   unfolding design_of
   at_loads kind e layer f = rw (e, f) refl
 
   at_device : (i : ℕ) (kind : RowKind) (meets gated onward : Bool) → kind ≡ Middle → gated ≡ true → (layer : Layer) → layer ≡ Poly
-      → net_among (columns.Wire i) above here below (net (wire_cell kind meets gated) East layer) ≡ net_among (columns.Device i) above here below (net (device_cell kind gated last onward) West layer)
+      → net_among (columns.Wire i) above here below (net (wire_cell kind meets gated) East layer) ≡ net_among (columns.Device i) above here below
+      (net (device_cell kind gated last onward) West layer)
   unfolding design_of
   at_device i kind meets gated onward e g layer f = rw (e, g, f) refl
 
@@ -206,20 +208,24 @@ module _ (row : MatrixRow) (last : Bool) (above here below : ℕ) where
 
 module _ (upper lower : MatrixRow) (is : Stacked upper lower) (last : Bool) (above below : ℕ) where
   abbrev agree_south : Column → Layer → Type 0
-  agree_south k layer = name_at upper k last South layer above upper.metal lower.metal ≡ name_at lower k last North layer upper.metal lower.metal below
+  agree_south k layer = name_at upper k last South layer above upper.metal lower.metal ≡ name_at lower k last North layer upper.metal lower.metal
+      below
 
   under_high : (u l : RowKind) → u ≡ Vdd → l ≡ Load → (layer : Layer) → layer ≡ Diffusion
-      → net_among columns.Load above upper.metal lower.metal (net (load_cell u) South layer) ≡ net_among columns.Load upper.metal lower.metal below (net (load_cell l) North layer)
+      → net_among columns.Load above upper.metal lower.metal (net (load_cell u) South layer) ≡ net_among columns.Load upper.metal lower.metal below
+      (net (load_cell l) North layer)
   unfolding design_of
   under_high u l e f layer g = rw (e, f, g) refl
 
   under_pulled : (u l : RowKind) → u ≡ Load → l ≡ Out → (layer : Layer) → layer ≡ Diffusion
-      → net_among columns.Load above upper.metal lower.metal (net (load_cell u) South layer) ≡ net_among columns.Load upper.metal lower.metal below (net (load_cell l) North layer)
+      → net_among columns.Load above upper.metal lower.metal (net (load_cell u) South layer) ≡ net_among columns.Load upper.metal lower.metal below
+      (net (load_cell l) North layer)
   unfolding design_of
   under_pulled u l e f layer g = rw (e, f, g) refl
 
   under_corner : (u l : RowKind) → u ≡ Load → l ≡ Out → (layer : Layer) → layer ≡ Poly
-      → net_among columns.Gate above upper.metal lower.metal (net (gate_cell u) South layer) ≡ net_among columns.Gate upper.metal lower.metal below (net (gate_cell l) North layer)
+      → net_among columns.Gate above upper.metal lower.metal (net (gate_cell u) South layer) ≡ net_among columns.Gate upper.metal lower.metal below
+      (net (gate_cell l) North layer)
   unfolding design_of
   under_corner u l e f layer g = rw (e, f, g) refl
 
@@ -229,13 +235,16 @@ module _ (upper lower : MatrixRow) (is : Stacked upper lower) (last : Bool) (abo
       net_among (columns.Device i) above upper.metal lower.metal (net (device_cell u ug last upper.onward) South layer)
       ≡ net_among (columns.Device i) upper.metal lower.metal below (net (device_cell l lg last lower.onward) North layer)
 
-  under_out : (i : ℕ) (u l : RowKind) (ug lg : Bool) (layer : Layer) → u ≡ Out → ug ≡ true → l ≡ Middle → lg ≡ true → layer ≡ Diffusion → device_names i u ug l lg layer
+  under_out : (i : ℕ) (u l : RowKind) (ug lg : Bool) (layer : Layer) → u ≡ Out → ug ≡ true → l ≡ Middle → lg ≡ true → layer ≡ Diffusion
+      → device_names i u ug l lg layer
   under_out i u l ug lg layer e f g h d = rw (e, f, g, h, d, out_number last upper.onward, pass_top last lower.onward) refl
 
-  under_tops : (i : ℕ) (u l : RowKind) (ug lg : Bool) (layer : Layer) → u ≡ Top → ug ≡ true → l ≡ Middle → lg ≡ true → layer ≡ Diffusion → device_names i u ug l lg layer
+  under_tops : (i : ℕ) (u l : RowKind) (ug lg : Bool) (layer : Layer) → u ≡ Top → ug ≡ true → l ≡ Middle → lg ≡ true → layer ≡ Diffusion
+      → device_names i u ug l lg layer
   under_tops i u l ug lg layer e f g h d = rw (e, f, g, h, d, top_number last upper.onward, pass_top last lower.onward) refl
 
-  under_middles : (i : ℕ) (u l : RowKind) (ug lg : Bool) (layer : Layer) → u ≡ Middle → ug ≡ true → l ≡ Bottom → lg ≡ true → layer ≡ Diffusion → device_names i u ug l lg layer
+  under_middles : (i : ℕ) (u l : RowKind) (ug lg : Bool) (layer : Layer) → u ≡ Middle → ug ≡ true → l ≡ Bottom → lg ≡ true → layer ≡ Diffusion
+      → device_names i u ug l lg layer
   under_middles i u l ug lg layer e f g h d = rw (e, f, g, h, d, pass_bottom last upper.onward, bottom_number last lower.onward) refl
 
   none_south : (p : Port) (t : Bool) → p ≡ record { metal = t; other = None } → (layer : Layer) → p.other ≡ Some layer → ⊥

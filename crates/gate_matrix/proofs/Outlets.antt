@@ -50,7 +50,8 @@ module _ (upper lower : MatrixRow) (is : Stacked upper lower) (last : Bool) wher
   above_blank e columns.Gate =
       let two = sym is.leads.out ∙ ap (λ (row : MatrixRow). is_load row.kind) e in
       ports.gate_north lower.kind ∙ rw two refl
-  above_blank e (columns.Wire i) = ports.wire_north lower.kind (lower.metal == i) (is_gated lower.gated i) ∙ ap (λ t. ports.narrow Poly (not t)) is.leads.begun
+  above_blank e (columns.Wire i) = ports.wire_north lower.kind (lower.metal == i) (is_gated lower.gated i)
+      ∙ ap (λ t. ports.narrow Poly (not t)) is.leads.begun
   above_blank e (columns.Device i) =
       let none : is_gated (gated_north lower.kind lower.gated) i ≡ false =
       ap (λ (l : List ℕ). is_gated l i) (sym is.leads.devices) ∙ ap (λ (row : MatrixRow). is_gated (gated_south row.kind row.gated) i) e in
@@ -66,7 +67,8 @@ module _ (upper lower : MatrixRow) (is : Stacked upper lower) (last : Bool) wher
   below_blank e columns.Gate =
       let two = is.leads.out ∙ ap (λ (row : MatrixRow). is_out row.kind) e in
       ports.gate_south upper.kind ∙ rw two refl
-  below_blank e (columns.Wire i) = ports.wire_south upper.kind (upper.metal == i) (is_gated upper.gated i) ∙ ap (λ t. ports.narrow Poly (not t)) is.leads.ended
+  below_blank e (columns.Wire i) = ports.wire_south upper.kind (upper.metal == i) (is_gated upper.gated i)
+      ∙ ap (λ t. ports.narrow Poly (not t)) is.leads.ended
   below_blank e (columns.Device i) =
       let none : is_gated (gated_south upper.kind upper.gated) i ≡ false =
       ap (λ (l : List ℕ). is_gated l i) is.leads.devices ∙ ap (λ (row : MatrixRow). is_gated (gated_north row.kind row.gated) i) e in
@@ -110,7 +112,8 @@ device_end Bottom false = refl
 abbrev led_out : (ℕ → ℕ) → Port → (Side → Layer → ℕ) → Side → Layer → Option ℕ
 led_out name p number side layer = option_map name (if carries p layer then Some (number side layer) else None)
 
-nothing : (name : ℕ → ℕ) (number : Side → Layer → ℕ) (side : Side) (layer : Layer) → led_out name (record { metal = false; other = None }) number side layer ≡ None
+nothing : (name : ℕ → ℕ) (number : Side → Layer → ℕ) (side : Side) (layer : Layer)
+    → led_out name (record { metal = false; other = None }) number side layer ≡ None
 nothing name number side Metal = refl
 nothing name number side Diffusion = refl
 nothing name number side Poly = refl
@@ -193,10 +196,12 @@ module _ (matrix : Matrix) (is : IsStack matrix) (some_net : 1 ≤ length matrix
   at_south c =
       let some = is.some_row in
       let r = height - 1 in
-      below_blank (row_at matrix r) (row_at matrix (r + 1)) (is.south r (omega arith)) (c + 1 == matrix.cols) (get_or_past matrix.rows (r + 1) blank_row (omega arith)) (column_of matrix.at c)
+      below_blank (row_at matrix r) (row_at matrix (r + 1)) (is.south r (omega arith)) (c + 1 == matrix.cols)
+      (get_or_past matrix.rows (r + 1) blank_row (omega arith)) (column_of matrix.at c)
 
   -- the last column is of devices, or free
-  end_port : (row : MatrixRow) (k : Column) (last : Bool) → last ≡ true → row.onward ≡ false → (k ≡ columns.Load → ⊥) → (k ≡ columns.Gate → ⊥) → ((i : ℕ) → k ≡ columns.Wire i → ⊥)
+  end_port : (row : MatrixRow) (k : Column) (last : Bool) → last ≡ true → row.onward ≡ false → (k ≡ columns.Load → ⊥) → (k ≡ columns.Gate → ⊥)
+      → ((i : ℕ) → k ≡ columns.Wire i → ⊥)
       → port (cell row k last) East ≡ record { metal = false; other = None }
   end_port row columns.Load last e o l g w = absurd (l refl)
   end_port row columns.Gate last e o l g w = absurd (g refl)

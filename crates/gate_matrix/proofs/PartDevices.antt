@@ -31,7 +31,8 @@ draw_on xs ys ds es h k above rest =
           ∙ sym (append_assoc ds es (rows_devices two.0 rest)),
     )
 
-draw_flat : {X : Type 0} (f : X → List MatrixRow) (g : X → List Device) (xs : List X) → ((x : X) → Draw (f x) (g x)) → Draw (flat_map f xs) (flat_map g xs)
+draw_flat : {X : Type 0} (f : X → List MatrixRow) (g : X → List Device) (xs : List X) → ((x : X) → Draw (f x) (g x))
+    → Draw (flat_map f xs) (flat_map g xs)
 draw_flat f g [] each = draw_none
 draw_flat f g (x ∷ xs) each = draw_on (f x) (flat_map f xs) (g x) (flat_map g xs) (each x) (draw_flat f g xs each)
 
@@ -67,7 +68,8 @@ module _ (part : PartTables) where
 
   abbrev pub gates_drawn : List NorGate → List NorGate → List Device
   gates_drawn earlier [] = []
-  gates_drawn earlier (gate ∷ gates) = (map loaded (load_if (has_load part earlier gate) gate.out) ++ pulls gate) ++ gates_drawn (earlier ++ gate ∷ []) gates
+  gates_drawn earlier (gate ∷ gates) = (map loaded (load_if (has_load part earlier gate) gate.out) ++ pulls gate) ++ gates_drawn
+      (earlier ++ gate ∷ []) gates
 
   draws_gate : (earlier : List NorGate) (gate : NorGate)
       → Draw (rows_of_gate part earlier gate) (map loaded (load_if (has_load part earlier gate) gate.out) ++ pulls gate)
@@ -102,7 +104,8 @@ module _ (part : PartTables) where
   draws_part =
       draw_on (rows_of_gates part [] part.gates ++ flat_map (rows_of_load part) part.loads) (flat_map (rows_of_transfer part) part.transfers)
       (gates_drawn [] part.gates ++ flat_map lone_load part.loads) (flat_map (λ transfer. clocked_device part transfer ∷ []) part.transfers)
-      (draw_on (rows_of_gates part [] part.gates) (flat_map (rows_of_load part) part.loads) (gates_drawn [] part.gates) (flat_map lone_load part.loads)
+      (draw_on (rows_of_gates part [] part.gates) (flat_map (rows_of_load part) part.loads) (gates_drawn [] part.gates)
+      (flat_map lone_load part.loads)
       (draws_gates [] part.gates) (draw_flat (rows_of_load part) lone_load part.loads draws_load))
       (draw_flat (rows_of_transfer part) (λ transfer. clocked_device part transfer ∷ []) part.transfers
       (λ transfer. draw_devices transfer.from (clock_net part transfer.clock ∷ []) transfer.to))

@@ -48,7 +48,8 @@ module _ (p q : ℕ → Bool) where
           let test : (n == x) ≡ true = eq-eqb n x e in
           let apart : All (λ k. x ≢ k) xs = subst (λ (m : ℕ). All (λ k. m ≢ k) xs) e (apart_from n xs distinct) in
           let left : filter p (n ∷ xs) ≡ x ∷ filter q xs =
-          ap (λ t. cond t (n ∷ filter p xs) (filter p xs)) (ap p e ∙ passes) ∙ ap (λ (m : ℕ). m ∷ filter p xs) e ∙ ap (λ l. x ∷ l) (filter_beside xs apart) in
+          ap (λ t. cond t (n ∷ filter p xs) (filter p xs)) (ap p e ∙ passes) ∙ ap (λ (m : ℕ). m ∷ filter p xs) e
+          ∙ ap (λ l. x ∷ l) (filter_beside xs apart) in
           let right : (if list_any (λ k. k == x) (n ∷ xs) then x ∷ [] else []) ++ filter q (n ∷ xs) ≡ x ∷ filter q xs =
           ap (λ t. (if t || list_any (λ k. k == x) xs then x ∷ [] else []) ++ filter q (n ∷ xs)) test
           ∙ ap (λ t. x ∷ cond t (n ∷ filter q xs) (filter q xs)) (ap q e ∙ fails) in
@@ -57,11 +58,14 @@ module _ (p q : ℕ → Bool) where
           let test : (n == x) ≡ false = ne_eqb n x h in
           let ones = if list_any (λ k. k == x) xs then x ∷ [] else [] in
           let rest = filter_one passes fails xs (apart_tail n xs distinct) in
-          let before : IsPermutation (filter p (n ∷ xs)) (ones ++ filter q (n ∷ xs)) = with_one (p n) (q n) (others n h) n (filter p xs) ones (filter q xs) rest in
-          subst (λ t. IsPermutation (filter p (n ∷ xs)) ((if t || list_any (λ k. k == x) xs then x ∷ [] else []) ++ filter q (n ∷ xs))) (sym test) before
+          let before : IsPermutation (filter p (n ∷ xs)) (ones ++ filter q (n ∷ xs)) =
+          with_one (p n) (q n) (others n h) n (filter p xs) ones (filter q xs) rest in
+          subst (λ t. IsPermutation (filter p (n ∷ xs)) ((if t || list_any (λ k. k == x) xs then x ∷ [] else []) ++ filter q (n ∷ xs)))
+          (sym test) before
     ]
       where
-        with_one : (s t : Bool) → s ≡ t → (m : ℕ) (ps ones qs : List ℕ) → IsPermutation ps (ones ++ qs) → IsPermutation (cond s (m ∷ ps) ps) (ones ++ cond t (m ∷ qs) qs)
+        with_one : (s t : Bool) → s ≡ t → (m : ℕ) (ps ones qs : List ℕ) → IsPermutation ps (ones ++ qs)
+            → IsPermutation (cond s (m ∷ ps) ps) (ones ++ cond t (m ∷ qs) qs)
         with_one true true e m ps ones qs rest =
             IsPermutation-trans (m ∷ ps) (m ∷ (ones ++ qs)) (ones ++ m ∷ qs) (IsPermutation-cons m ps (ones ++ qs) rest)
             (IsPermutation-sym (ones ++ m ∷ qs) (m ∷ (ones ++ qs)) (IsPermutation-middle ones m qs))
@@ -75,7 +79,11 @@ output_more : (gates : List NorGate) (gate : NorGate) (n : ℕ) → is_output (g
 output_more [] gate n = elim (gate.out == n) as (λ t. (t || false) ≡ t) [ true ↦ refl | false ↦ refl ]
 output_more (one ∷ gates) gate n =
     ap (λ t. (one.out == n) || t) (output_more gates gate n)
-    ∙ (elim (one.out == n) as (λ t. (t || (is_output gates n || (gate.out == n))) ≡ ((t || is_output gates n) || (gate.out == n))) [ true ↦ refl | false ↦ refl ])
+    ∙ (elim (one.out == n) as (λ t. (t || (is_output gates n || (gate.out == n))) ≡ ((t || is_output gates n) || (gate.out == n))) [
+      | true ↦
+          refl
+      | false ↦ refl
+    ])
 
 and_right : (t : Bool) → (t && true) ≡ t
 and_right true = refl
@@ -109,10 +117,12 @@ module _ (part : PartTables) (is : IsPart part) where
       let others : (n : ℕ) → (n ≡ out → ⊥) → p n ≡ q n =
       λ n h.
       let test : (out == n) ≡ false = ne_eqb out n (λ e. h (sym e)) in
-      let after : is_output more n ≡ is_output earlier n = output_more earlier gate n ∙ ap (λ t. is_output earlier n || t) test ∙ or_no (is_output earlier n) in
+      let after : is_output more n ≡ is_output earlier n = output_more earlier gate n ∙ ap (λ t. is_output earlier n || t) test
+      ∙ or_no (is_output earlier n) in
       ap (λ t. (t || is_output gates n) && not (is_output earlier n)) test ∙ ap (λ t. is_output gates n && not t) (sym after) in
       let same : (out == out) ≡ true = eq-eqb out out refl in
-      let last : is_output more out ≡ true = output_more earlier gate out ∙ ap (λ t. is_output earlier out || t) same ∙ or_yes (is_output earlier out) in
+      let last : is_output more out ≡ true = output_more earlier gate out ∙ ap (λ t. is_output earlier out || t) same
+      ∙ or_yes (is_output earlier out) in
       let fails : q out ≡ false = ap (λ t. is_output gates out && not t) last ∙ and_none (is_output gates out) in
       let found = list_any (λ net. net == out) part.loads in
       elim (cases_Bool (is_output earlier out)) [
@@ -128,8 +138,10 @@ module _ (part : PartTables) (is : IsPart part) where
             let passes : p out ≡ true = ap (λ t. (t || is_output gates out) && not (is_output earlier out)) same ∙ ap (λ t. not t) new in
             let one = filter_one p q out others passes fails part.loads is.loads_once in
             subst (λ t. IsPermutation (load_if part t out ++ gate_loads part more gates) (filter p part.loads)) (sym some)
-            (IsPermutation-trans (load_if part found out ++ gate_loads part more gates) (load_if part found out ++ filter q part.loads) (filter p part.loads)
-            (IsPermutation-append (load_if part found out) (load_if part found out) (gate_loads part more gates) (filter q part.loads) (IsPermutation-refl (load_if part found out)) rest)
+            (IsPermutation-trans (load_if part found out ++ gate_loads part more gates) (load_if part found out ++ filter q part.loads)
+            (filter p part.loads)
+            (IsPermutation-append (load_if part found out) (load_if part found out) (gate_loads part more gates) (filter q part.loads)
+            (IsPermutation-refl (load_if part found out)) rest)
             (IsPermutation-sym (filter p part.loads) (load_if part found out ++ filter q part.loads) one))
       ]
 
@@ -139,20 +151,29 @@ module _ (part : PartTables) (is : IsPart part) where
   lone_loads [] = refl
   lone_loads (net ∷ nets) =
       ap (λ l. lone_load part net ++ l) (lone_loads nets)
-      ∙ (elim (not (is_output part.gates net)) as (λ t. map (loaded part) (load_if part t net) ++ map (loaded part) (filter (λ n. not (is_output part.gates n)) nets)
-      ≡ map (loaded part) (cond t (net ∷ filter (λ n. not (is_output part.gates n)) nets) (filter (λ n. not (is_output part.gates n)) nets))) [ true ↦ refl | false ↦ refl ])
+      ∙ (elim (not (is_output part.gates net)) as (λ t. map (loaded part) (load_if part t net) ++ map (loaded part)
+      (filter (λ n. not (is_output part.gates n)) nets)
+      ≡ map (loaded part) (cond t (net ∷ filter (λ n. not (is_output part.gates n)) nets) (filter (λ n. not (is_output part.gates n)) nets)))
+      [ true ↦ refl | false ↦ refl ])
 
-  loads_permuted : IsPermutation (map (loaded part) (gate_loads part [] part.gates) ++ flat_map (lone_load part) part.loads) (map (loaded part) part.loads)
+  loads_permuted : IsPermutation (map (loaded part) (gate_loads part [] part.gates) ++ flat_map (lone_load part) part.loads)
+      (map (loaded part) part.loads)
   loads_permuted =
       let out = is_output part.gates in
       let alone = λ (n : ℕ). not (is_output part.gates n) in
       let first : IsPermutation (gate_loads part [] part.gates) (filter out part.loads) =
-      subst (IsPermutation (gate_loads part [] part.gates)) (filter_all (new_output [] part.gates) out (λ n. and_right (is_output part.gates n)) part.loads) (gates_have [] part.gates) in
-      let both = IsPermutation-append (gate_loads part [] part.gates) (filter out part.loads) (filter alone part.loads) (filter alone part.loads) first (IsPermutation-refl (filter alone part.loads)) in
-      let whole = IsPermutation-trans (gate_loads part [] part.gates ++ filter alone part.loads) (filter out part.loads ++ filter alone part.loads) part.loads both
-      (IsPermutation-sym part.loads (filter out part.loads ++ filter alone part.loads) (IsPermutation-filter_both out alone (λ n. refl) part.loads)) in
-      let joined : map (loaded part) (gate_loads part [] part.gates ++ filter alone part.loads) ≡ map (loaded part) (gate_loads part [] part.gates) ++ flat_map (lone_load part) part.loads =
-      map-append (loaded part) (gate_loads part [] part.gates) (filter alone part.loads) ∙ ap (λ l. map (loaded part) (gate_loads part [] part.gates) ++ l) (sym (lone_loads part.loads)) in
+      subst (IsPermutation (gate_loads part [] part.gates))
+      (filter_all (new_output [] part.gates) out (λ n. and_right (is_output part.gates n)) part.loads) (gates_have [] part.gates) in
+      let both = IsPermutation-append (gate_loads part [] part.gates) (filter out part.loads) (filter alone part.loads)
+      (filter alone part.loads) first (IsPermutation-refl (filter alone part.loads)) in
+      let whole = IsPermutation-trans (gate_loads part [] part.gates ++ filter alone part.loads)
+      (filter out part.loads ++ filter alone part.loads) part.loads both
+      (IsPermutation-sym part.loads (filter out part.loads ++ filter alone part.loads)
+      (IsPermutation-filter_both out alone (λ n. refl) part.loads)) in
+      let joined : map (loaded part) (gate_loads part [] part.gates ++ filter alone part.loads) ≡ map (loaded part)
+      (gate_loads part [] part.gates) ++ flat_map (lone_load part) part.loads =
+      map-append (loaded part) (gate_loads part [] part.gates) (filter alone part.loads)
+      ∙ ap (λ l. map (loaded part) (gate_loads part [] part.gates) ++ l) (sym (lone_loads part.loads)) in
       subst (λ l. IsPermutation l (map (loaded part) part.loads)) joined (IsPermutation-map (loaded part) _ part.loads whole)
 
   -- ---- all devices
@@ -171,7 +192,8 @@ module _ (part : PartTables) (is : IsPart part) where
       let rest = gates_permuted more gates in
       let front = IsPermutation-append (first ++ down) (down ++ first) later (downs ++ loads) (IsPermutation-append_comm first down) rest in
       let middle : IsPermutation ((down ++ first) ++ (downs ++ loads)) ((down ++ downs) ++ (first ++ loads)) = inner down first downs loads in
-      let split : map (loaded part) (load ++ gate_loads part more gates) ≡ first ++ loads = map-append (loaded part) load (gate_loads part more gates) in
+      let split : map (loaded part) (load ++ gate_loads part more gates) ≡ first ++ loads =
+      map-append (loaded part) load (gate_loads part more gates) in
       subst (λ l. IsPermutation ((first ++ down) ++ later) ((down ++ downs) ++ l)) (sym split)
       (IsPermutation-trans ((first ++ down) ++ later) ((down ++ first) ++ (downs ++ loads)) ((down ++ downs) ++ (first ++ loads)) front middle)
     where

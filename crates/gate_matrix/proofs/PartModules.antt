@@ -38,6 +38,7 @@ parts_are_modules plans paths part at rows cols is_part fits =
           IsPermutation-map ascending (drawn matrix stack part.vdd supplied gates) (part_devices part)
           (IsPermutation-trans (drawn matrix stack part.vdd supplied gates) (rows_devices (metal_in matrix 0) matrix.rows) (part_devices part)
           (as_listed matrix stack part.vdd supplied gates)
-          (subst (λ l. IsPermutation l (part_devices part)) (sym (rows_draw part (rows - height_of_part part) (metal_in matrix 0))) (part_permuted part is_part)));
+          (subst (λ l. IsPermutation l (part_devices part)) (sym (rows_draw part (rows - height_of_part part) (metal_in matrix 0)))
+          (part_permuted part is_part)));
       border_is = border_is matrix stack (omega arith) (λ r below. (row_fine part is_part at rows cols fits r below).closed);
     }

@@ -40,7 +40,8 @@ module _ (nets vdd : ℕ) where
   plain kind net gated m s g = record { metal = m; supply = s; gates = g; closed = refl }
 
   fine_blank : (n : ℕ) → AllFine (replicate n blank_row)
-  fine_blank n = All-replicate (IsFine nets vdd) n blank_row (record { metal = λ e. absurd (cc); supply = λ e. absurd (cc); gates = no_gates; closed = refl })
+  fine_blank n = All-replicate (IsFine nets vdd) n blank_row
+      (record { metal = λ e. absurd (cc); supply = λ e. absurd (cc); gates = no_gates; closed = refl })
 
   fine_load : (net : ℕ) (gated : List ℕ) → vdd < nets → net < nets → AreGates nets gated → AllFine (load_rows vdd net gated)
   fine_load net gated v below gates =
@@ -55,9 +56,11 @@ module _ (nets vdd : ℕ) where
 
   fine_devices : (top : ℕ) (gated : List ℕ) (bottom : ℕ) → top < nets → AreGates nets gated → bottom < nets → AllFine (device_rows top gated bottom)
   fine_devices top gated bottom t gates b =
-      one (closed_row Top top gated) (closed_row Middle 0 gated ∷ closed_row Bottom bottom gated ∷ []) (plain Top top gated (λ e. t) (λ e. absurd (cc)) gates) (fine_ends gated bottom b gates)
+      one (closed_row Top top gated) (closed_row Middle 0 gated ∷ closed_row Bottom bottom gated ∷ [])
+      (plain Top top gated (λ e. t) (λ e. absurd (cc)) gates) (fine_ends gated bottom b gates)
 
-  fine_flat : {X : Type 0} (f : X → List MatrixRow) (P : X → Type 0) → ((x : X) → P x → AllFine (f x)) → (xs : List X) → All P xs → AllFine (flat_map f xs)
+  fine_flat : {X : Type 0} (f : X → List MatrixRow) (P : X → Type 0) → ((x : X) → P x → AllFine (f x)) → (xs : List X) → All P xs
+      → AllFine (flat_map f xs)
   fine_flat f P each [] all = All-nil (IsFine nets vdd)
   fine_flat f P each (x ∷ xs) all =
       All-append (IsFine nets vdd) (f x) (flat_map f xs) (each x (All-head P x xs all)) (fine_flat f P each xs (All-tail P x xs all))
@@ -86,7 +89,9 @@ module _ (part : PartTables) (is : IsPart part) where
     where
       by_test : (t : Bool) → Fine (if t then gate_rows part.vdd part.gnd gate.out gate.inputs else device_rows gate.out gate.inputs part.gnd)
       by_test true =
-          All-append (IsFine part.nets part.vdd) (load_rows part.vdd gate.out gate.inputs) (closed_row Middle 0 gate.inputs ∷ closed_row Bottom part.gnd gate.inputs ∷ []) (fine_load part.nets part.vdd gate.out gate.inputs vdd_below g.out_below (inputs gate g))
+          All-append (IsFine part.nets part.vdd) (load_rows part.vdd gate.out gate.inputs)
+          (closed_row Middle 0 gate.inputs ∷ closed_row Bottom part.gnd gate.inputs ∷ [])
+          (fine_load part.nets part.vdd gate.out gate.inputs vdd_below g.out_below (inputs gate g))
           (fine_ends part.nets part.vdd gate.inputs part.gnd gnd_below (inputs gate g))
       by_test false = fine_devices part.nets part.vdd gate.out gate.inputs part.gnd g.out_below (inputs gate g) gnd_below
 
@@ -122,7 +127,8 @@ module _ (part : PartTables) (is : IsPart part) where
   fine_part : (n : ℕ) → Fine (replicate n blank_row ++ rows_of_part part)
   fine_part n =
       All-append (IsFine part.nets part.vdd) (replicate n blank_row) (rows_of_part part) (fine_blank part.nets part.vdd n)
-      (All-append (IsFine part.nets part.vdd) (rows_of_gates part [] part.gates ++ flat_map (rows_of_load part) part.loads) (flat_map (rows_of_transfer part) part.transfers)
+      (All-append (IsFine part.nets part.vdd) (rows_of_gates part [] part.gates ++ flat_map (rows_of_load part) part.loads)
+      (flat_map (rows_of_transfer part) part.transfers)
       (All-append (IsFine part.nets part.vdd) (rows_of_gates part [] part.gates) (flat_map (rows_of_load part) part.loads)
       (fine_gates [] part.gates is.gates)
       (fine_flat part.nets part.vdd (rows_of_load part) (λ net. net < part.nets) fine_one_load part.loads is.loads_below))
@@ -132,7 +138,8 @@ module _ (part : PartTables) (is : IsPart part) where
 
   module _ (at : List ℕ) (rows cols : ℕ) (fits : FitsPart part at rows cols) where
     pub row_fine : (r : ℕ) → r < length (part_matrix part at rows cols).rows → IsFine part.nets part.vdd (row_at (part_matrix part at rows cols) r)
-    row_fine r below = All-get_or (IsFine part.nets part.vdd) (part_matrix part at rows cols).rows r blank_row below (fine_part (rows - height_of_part part))
+    row_fine r below = All-get_or (IsFine part.nets part.vdd) (part_matrix part at rows cols).rows r blank_row below
+        (fine_part (rows - height_of_part part))
 
     pub is_stack : IsStack (part_matrix part at rows cols)
     is_stack = record {

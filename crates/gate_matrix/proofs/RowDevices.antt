@@ -20,7 +20,8 @@ use Rattle.gate_matrix.proofs.FilledColumns.{within, room}
 
 -- ---- lists made over a range
 
-pub flat_same : {X : Type 0} (f g : ℕ → List X) (a n : ℕ) → ((k : ℕ) → a ≤ k → k < a + n → f k ≡ g k) → flat_map f (range_with_len a n) ≡ flat_map g (range_with_len a n)
+pub flat_same : {X : Type 0} (f g : ℕ → List X) (a n : ℕ) → ((k : ℕ) → a ≤ k → k < a + n → f k ≡ g k)
+    → flat_map f (range_with_len a n) ≡ flat_map g (range_with_len a n)
 flat_same f g a zero each = refl
 flat_same f g a (suc n) each =
     ap (λ l. l ++ flat_map f (range_with_len (a + 1) n)) (each a (omega arith) (omega arith))
@@ -101,7 +102,8 @@ module _ (wires : List ℕ) (cols : ℕ) (w : AreWires wires cols) (above below 
   pass_none columns.Free = refl
 
   pass_here : (i : ℕ) (gated : List ℕ) → is_gated gated i ≡ false
-      → cell_device Middle (i ∷ gated) above below (columns.Device i) ≡ devices.Pass (at i) (at above) (at below) ∷ cell_device Middle gated above below (columns.Device i)
+      → cell_device Middle (i ∷ gated) above below (columns.Device i) ≡ devices.Pass (at i) (at above)
+      (at below) ∷ cell_device Middle gated above below (columns.Device i)
   pass_here i gated none = let test : (i == i) ≡ true = eq-eqb i i refl in rw (test, none) refl
 
   pass_other : (i : ℕ) (gated : List ℕ) (k : Column) → ((j : ℕ) → k ≡ columns.Device j → i ≡ j → ⊥)
@@ -115,7 +117,8 @@ module _ (wires : List ℕ) (cols : ℕ) (w : AreWires wires cols) (above below 
   passes_permuted : (gated : List ℕ) → AreGates (length wires) gated
       → IsPermutation (flat_map (λ c. cell_device Middle gated above below (column_of wires c)) (range_with_len 0 cols)) (passes_of gated above below)
   passes_permuted [] gates =
-      subst (λ l. IsPermutation l []) (sym (flat_none (λ c. cell_device Middle [] above below (column_of wires c)) 0 cols (λ c from high. pass_none (column_of wires c))))
+      subst (λ l. IsPermutation l []) (sym (flat_none (λ c. cell_device Middle [] above below (column_of wires c)) 0 cols
+      (λ c from high. pass_none (column_of wires c))))
       (IsPermutation-refl [])
   passes_permuted (i ∷ gated) gates =
       let few : i < length wires = All-head (λ j. j < length wires) i gated gates.below in
@@ -163,9 +166,11 @@ module _ (wires : List ℕ) (cols : ℕ) (w : AreWires wires cols) (above below 
 
   nothing : (kind : RowKind) (gated : List ℕ) → ((k : Column) → cell_device kind gated above below k ≡ []) → IsPermutation (row_of kind gated) []
   nothing kind gated each =
-      equal (row_of kind gated) [] (flat_none (λ c. cell_device kind gated above below (column_of wires c)) 0 cols (λ c from high. each (column_of wires c)))
+      equal (row_of kind gated) [] (flat_none (λ c. cell_device kind gated above below (column_of wires c)) 0 cols
+      (λ c from high. each (column_of wires c)))
 
-  no_device : (kind : RowKind) (gated : List ℕ) → ((net : ℕ) → load_device kind net ≡ []) → ((g : Bool) (i : ℕ) → pass_device kind g i above below ≡ [])
+  no_device : (kind : RowKind) (gated : List ℕ) → ((net : ℕ) → load_device kind net ≡ [])
+      → ((g : Bool) (i : ℕ) → pass_device kind g i above below ≡ [])
       → (k : Column) → cell_device kind gated above below k ≡ []
   no_device kind gated loads passes columns.Load = loads below
   no_device kind gated loads passes columns.Gate = refl
@@ -173,13 +178,15 @@ module _ (wires : List ℕ) (cols : ℕ) (w : AreWires wires cols) (above below 
   no_device kind gated loads passes (columns.Device i) = passes (is_gated gated i) i
   no_device kind gated loads passes columns.Free = refl
 
-  pub row_permuted : (kind : RowKind) (gated : List ℕ) → (kind ≡ Middle → AreGates (length wires) gated) → IsPermutation (row_of kind gated) (row_devices kind gated above below)
+  pub row_permuted : (kind : RowKind) (gated : List ℕ) → (kind ≡ Middle → AreGates (length wires) gated)
+      → IsPermutation (row_of kind gated) (row_devices kind gated above below)
   row_permuted Middle gated gates = passes_permuted gated (gates refl)
   row_permuted Load gated gates =
       let wide = room wires cols 2 w in
       let some : cols ≡ suc (cols - 1) = omega arith in
       equal (row_of Load gated) (devices.Load (at below) ∷ [])
-      (ap (λ (n : ℕ). flat_map (λ c. cell_device Load gated above below (column_of wires c)) (range_with_len 0 n)) some ∙ load_alone gated (cols - 1) some)
+      (ap (λ (n : ℕ). flat_map (λ c. cell_device Load gated above below (column_of wires c)) (range_with_len 0 n)) some
+      ∙ load_alone gated (cols - 1) some)
   row_permuted Start gated gates = nothing Start gated (no_device Start gated (λ net. refl) (λ g i. refl))
   row_permuted Through gated gates = nothing Through gated (no_device Through gated (λ net. refl) (λ g i. refl))
   row_permuted Stop gated gates = nothing Stop gated (no_device Stop gated (λ net. refl) (λ g i. refl))

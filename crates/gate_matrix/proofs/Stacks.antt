@@ -90,9 +90,14 @@ module _ (upper lower : MatrixRow) (is : Stacked upper lower) where
       ap (λ (k : RowKind). gated_south k upper.gated) (sym e) ∙ is.leads.devices ∙ ap (λ (k : RowKind). gated_north k lower.gated) down in
       ap (λ (l : List ℕ). is_gated l i) (sym same) ∙ h
 
-  pub over_middle : (i : ℕ) → lower.kind ≡ Middle → is_gated lower.gated i ≡ true → ((upper.kind ≡ Out) ⊎ (upper.kind ≡ Top)) × (is_gated upper.gated i ≡ true)
-  over_middle i e h = above_devices upper.kind upper.gated lower.gated i (is.leads.devices ∙ ap (λ (k : RowKind). gated_north k lower.gated) e) h (is.middle ∙ ap is_bottom e)
+  pub over_middle : (i : ℕ) → lower.kind ≡ Middle → is_gated lower.gated i ≡ true
+      → ((upper.kind ≡ Out) ⊎ (upper.kind ≡ Top)) × (is_gated upper.gated i ≡ true)
+  over_middle i e h = above_devices upper.kind upper.gated lower.gated i (is.leads.devices
+      ∙ ap (λ (k : RowKind). gated_north k lower.gated) e) h (is.middle ∙ ap is_bottom e)
 
-  pub under_top : (i : ℕ) → ((upper.kind ≡ Out) ⊎ (upper.kind ≡ Top)) → is_gated upper.gated i ≡ true → (lower.kind ≡ Middle) × (is_gated lower.gated i ≡ true)
-  under_top i (inl e) h = below_tops lower.kind lower.gated upper.gated i (ap (λ (k : RowKind). gated_south k upper.gated) (sym e) ∙ is.leads.devices) h (sym is.middle ∙ ap is_middle e)
-  under_top i (inr e) h = below_tops lower.kind lower.gated upper.gated i (ap (λ (k : RowKind). gated_south k upper.gated) (sym e) ∙ is.leads.devices) h (sym is.middle ∙ ap is_middle e)
+  pub under_top : (i : ℕ) → ((upper.kind ≡ Out) ⊎ (upper.kind ≡ Top)) → is_gated upper.gated i ≡ true
+      → (lower.kind ≡ Middle) × (is_gated lower.gated i ≡ true)
+  under_top i (inl e) h = below_tops lower.kind lower.gated upper.gated i (ap (λ (k : RowKind). gated_south k upper.gated) (sym e)
+      ∙ is.leads.devices) h (sym is.middle ∙ ap is_middle e)
+  under_top i (inr e) h = below_tops lower.kind lower.gated upper.gated i (ap (λ (k : RowKind). gated_south k upper.gated) (sym e)
+      ∙ is.leads.devices) h (sym is.middle ∙ ap is_middle e)
