@@ -23,3 +23,6 @@ mod ListedRows
 mod PlanWindows
 mod PlanTilings
 mod PlanNetworks
+mod Mirrors
+mod MirroredDevices
+mod MirroredModules

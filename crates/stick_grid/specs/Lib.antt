@@ -10,6 +10,7 @@ pub mod Devices
 pub mod Windows
 pub mod Depicted
 pub mod Modules
+pub mod Mirrors
 -- Definitions that serve private contracts alone:
 pub mod PieceGraph
 pub mod NetMaps

@@ -3,10 +3,13 @@
 
 ghost use Rattle.stick_grid.specs.Depicted.{PlansStandForNetworks, PortsHaveSquares};
 ghost use Rattle.stick_grid.specs.Devices.{TransistorsAreChannels};
+ghost use Rattle.stick_grid.specs.Mirrors.{MirrorsAreModules};
 ghost use Rattle.stick_grid.specs.Names.{NamesAreNets, PiecesHaveSquares, PlansHavePaths};
 ghost use Rattle.stick_grid.specs.Pieces.{PlansHavePieces, SquaresAreNets};
 ghost use Rattle.stick_grid.specs.Transistors.{ChannelsAreOfTiles, TransistorsArePlaced};
 ghost use Rattle.stick_grid.specs.Windows.{PlansAreTilings, SameTilesAgree, WindowsKeepPlans};
+
+use micro_tiles::laws::transposes_are_mirrored;
 
 /// Each conducting square of a plan is of one net of one tile. Two of them are joined exactly where the nets of their tiles are
 /// joined at the sides of neighbouring tiles, one after another.
@@ -53,3 +56,10 @@ pub fn same_tiles_agree()
 pub fn plans_stand_for_networks()
     ensures { PlansStandForNetworks }
 {}
+
+/// The mirror image of a module is a module of the same devices.
+pub fn mirrors_are_modules()
+    ensures { MirrorsAreModules }
+{
+    transposes_are_mirrored();
+}
