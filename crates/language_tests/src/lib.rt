@@ -11,3 +11,5 @@ mod printing;
 mod refusals;
 #[cfg(test)]
 mod rows;
+#[cfg(test)]
+mod versions;

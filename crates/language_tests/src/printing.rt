@@ -27,6 +27,23 @@ const WHOLE: &[(&str, &str)] = &[
         "#\u{ff}\0\r\n line\tx\r\n;symbol a=1;output z;expr a;# end",
         "line x;\nsymbol a = 1;\noutput z;\nexpr a;\n",
     ),
+    (
+        "version 2;\nline x;\nsymbol a = 1;\noutput z;\nexpr a{2,3} !z;\n",
+        "version 2;\nline x;\nsymbol a = 1;\noutput z;\nexpr a{2,3} !z;\n",
+    ),
+    (
+        "version 2;line x;symbol a=1;output z;expr(a a){0,002}{03,3}*;",
+        "version 2;\nline x;\nsymbol a = 1;\noutput z;\nexpr (a a){0,2}{3,3}*;\n",
+    ),
+    // The statements `expr` come first, and the version is written where a text needs it.
+    (
+        "version 2;line x;symbol a=1;symbol b=0;output z;scan a b!z;expr[a b]*;scan a;",
+        "version 2;\nline x;\nsymbol a = 1;\nsymbol b = 0;\noutput z;\nexpr (a | b)*;\nscan a b !z;\nscan a;\n",
+    ),
+    (
+        "version 2;line x;symbol a=1;symbol b=0;output z;expr[a b a]b;",
+        "line x;\nsymbol a = 1;\nsymbol b = 0;\noutput z;\nexpr (a | b | a) b;\n",
+    ),
 ];
 
 /// What stands behind `line x; symbol a = 1; symbol b = 0; output y z;`, and how that is printed.
@@ -34,8 +51,8 @@ const EXPRESSIONS: &[(&str, &str)] = &[
     ("expr a;", "expr a;\n"),
     ("expr((((a))));", "expr a;\n"),
     ("expr a;expr b;expr a;", "expr a;\nexpr b;\nexpr a;\n"),
-    ("expr{4096* a};", "expr{4096* a};\n"),
-    ("expr {200*(}a{200*)};", "expr a;\n"),
+    ("expr<4096* a>;", "expr<4096* a>;\n"),
+    ("expr <200*(>a<200*)>;", "expr a;\n"),
     // Unions and sequences are grouped to the left, where no parentheses stand.
     ("expr a b a|b a|a;", "expr a b a | b a | a;\n"),
     ("expr (a b)a|(b a|a);", "expr a b a | (b a | a);\n"),

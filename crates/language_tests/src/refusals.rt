@@ -23,7 +23,7 @@ const REFUSED: &[&str] = &[
     "S1@1:6 line _x;",
     "S1@1:34 line x;symbol a=1;output z;expr a\0;",
     "S1@1:35 line x;symbol a=1;output z;expr a;\x0c",
-    "S1@4:206 line x;\nsymbol a = 1;\noutput z;\nexpr {200*(}$",
+    "S1@4:206 line x;\nsymbol a = 1;\noutput z;\nexpr <200*(>$",
     "S2@1:1 x",
     "S2@2:1 line\r\n;",
     "S2@1:8 line x line;",
@@ -67,8 +67,8 @@ const REFUSED: &[&str] = &[
     "S2@1:34 line x;symbol a=1;output z;expr a=a;",
     "S2@1:38 line x;symbol a=1;output z;expr a # ;",
     "S2@1:35 line x;symbol a=1;output z;expr a;output u;",
-    "S2@4:207 line x;\nsymbol a = 1;\noutput z;\nexpr {200*(}a;",
-    "S2@4:608 line x;\nsymbol a = 1;\noutput z;\nexpr {200*(}a{200*)} {200*(}",
+    "S2@4:207 line x;\nsymbol a = 1;\noutput z;\nexpr <200*(>a;",
+    "S2@4:608 line x;\nsymbol a = 1;\noutput z;\nexpr <200*(>a<200*)> <200*(>",
     "S3@4:6 line x;\nsymbol a = 1;\noutput z;\nexpr b !z;",
     "S3@4:10 line x;\nsymbol a = 1;\noutput z;\nexpr a a x a !z;",
     "S3@6:3 line x;\nsymbol a = 1;\noutput z;\nexpr a;\r\nexpr (a\r\n| z)* !z;",
@@ -86,7 +86,7 @@ const REFUSED: &[&str] = &[
     "S3@3:16 line x;\r\nsymbol a=1;#c\r\noutput z;\texpr b;",
     "S3@3:2 line x;#\u{ff};\nsymbol a=1;output z;expr((a|#b\n(c)));",
     "S3@1:62 line a23456789012345678901234567890;symbol a=1;output z;expr unknown;",
-    "S3@35:6 line x;\n{32*symbol a@ = -;\n}output z;\nexpr b;\n",
+    "S3@35:6 line x;\n<32*symbol a@ = -;\n>output z;\nexpr b;\n",
     "S4@1:8 line x x;\nsymbol a = 1;\noutput z;\nexpr a !z;",
     "S4@2:14 line x;\nline y; line x;\nsymbol a = 1;\noutput z;\nexpr b;",
     "S4@2:8 line x;\nsymbol x = 11;\noutput z;\nexpr a;",
@@ -144,23 +144,23 @@ const REFUSED: &[&str] = &[
     "S10@2:28 line a b c d e;\r\nline f g h i j k l m n o p q r s;\nsymbol t = 1;\noutput z;\nexpr u;",
     "S10@1:38 line a b c d e f g h i j k l m n o p q;symbol r=1;output s;expr r;",
     "S10@1:43 line a b c d e f g h i j k l m n o p;line q;symbol r=1;output s;expr r;",
-    "S11@1:421 line x;{33*symbol a@=1;}output z;expr a0;",
-    "S11@1:421 line x;{99*symbol a@=1;}output z;expr a0;",
-    "S11@34:8 line x;\n{33*symbol a@ = -;\n}output z;\nexpr b;\n",
-    "S11@34:8 line x;\n{60*symbol a@ = -;\t# more\r\n}output z;\nexpr b;\n",
-    "S11@2:510 line x;\n{34*symbol a@ = -; }output z;\nexpr b;\n",
+    "S11@1:421 line x;<33*symbol a@=1;>output z;expr a0;",
+    "S11@1:421 line x;<99*symbol a@=1;>output z;expr a0;",
+    "S11@34:8 line x;\n<33*symbol a@ = -;\n>output z;\nexpr b;\n",
+    "S11@34:8 line x;\n<60*symbol a@ = -;\t# more\r\n>output z;\nexpr b;\n",
+    "S11@2:510 line x;\n<34*symbol a@ = -; >output z;\nexpr b;\n",
     "S12@3:40 line x;\nsymbol s = 1;\noutput a b c d e f g h i j k l m n o p q;\nexpr s;",
     "S12@4:36 line x;\nsymbol s = 1;\noutput a b; # two\noutput c d e f g h i j k l m n o p q r;\nexpr t;",
     "S12@5:2 line x;\nsymbol s = 1;\noutput a b c d e f g h;\noutput i j k l m n o p # q\n\tq;\nexpr t;",
     "S12@1:58 line x;symbol a=1;output b c d e f g h i j k l m n o p q r;expr a;",
-    "S13@4:8198 line x;\nsymbol a = 1;\noutput z;\nexpr{4097* a} !z;\n",
-    "S13@1:16419 line x;symbol a00=1;output z;expr{4097* a00};",
-    "S14@4:206 line x;\nsymbol a = 1;\noutput z;\nexpr {201*(}$",
-    "S14@4:206 line x;\nsymbol a = 1;\noutput z;\nexpr {1000*(}",
-    "S14@4:608 line x;\nsymbol a = 1;\noutput z;\nexpr {200*(}a{200*)} {201*(}a",
-    "S14@5:206 line x;\nsymbol a = 1;\noutput z;\nexpr {200*(}a{200*)};\r\n\texpr{201*(}",
-    "S14@1:233 line x;symbol a=1;output z;expr {201*(}a{201*)};",
-    "S14@1:233 line x;symbol a=1;output z;expr {100000*(}a{100000*)};",
+    "S13@4:8198 line x;\nsymbol a = 1;\noutput z;\nexpr<4097* a> !z;\n",
+    "S13@1:16419 line x;symbol a00=1;output z;expr<4097* a00>;",
+    "S14@4:206 line x;\nsymbol a = 1;\noutput z;\nexpr <201*(>$",
+    "S14@4:206 line x;\nsymbol a = 1;\noutput z;\nexpr <1000*(>",
+    "S14@4:608 line x;\nsymbol a = 1;\noutput z;\nexpr <200*(>a<200*)> <201*(>a",
+    "S14@5:206 line x;\nsymbol a = 1;\noutput z;\nexpr <200*(>a<200*)>;\r\n\texpr<201*(>",
+    "S14@1:233 line x;symbol a=1;output z;expr <201*(>a<201*)>;",
+    "S14@1:233 line x;symbol a=1;output z;expr <100000*(>a<100000*)>;",
 ];
 
 /// Where they may have so many.
@@ -192,23 +192,23 @@ const LIMITED: &[(u32, &str)] = &[
     (1, "read line x;\nsymbol a = 1;\noutput z;\nexpr a !z;\n"),
     (
         256,
-        "S13@4:518 line x;\nsymbol a = 1;\noutput z;\nexpr{257* a} !z;\n",
+        "S13@4:518 line x;\nsymbol a = 1;\noutput z;\nexpr<257* a> !z;\n",
     ),
     (
         256,
-        "read line x;\nsymbol a = 1;\noutput z;\nexpr{256* a} !z;\n",
+        "read line x;\nsymbol a = 1;\noutput z;\nexpr<256* a> !z;\n",
     ),
     (
         256,
-        "S13@1:1059 line x;symbol a00=1;output z;expr{257* a00};",
+        "S13@1:1059 line x;symbol a00=1;output z;expr<257* a00>;",
     ),
     (
         4096,
-        "read line x;\nsymbol a = 1;\noutput z;\nexpr{4096* a} !z;\n",
+        "read line x;\nsymbol a = 1;\noutput z;\nexpr<4096* a> !z;\n",
     ),
     (
         4096,
-        "read line x;{32*symbol a@=1;}output z;expr{4096* a0};",
+        "read line x;<32*symbol a@=1;>output z;expr<4096* a0>;",
     ),
 ];
 
@@ -233,7 +233,7 @@ fn outcome(alloc: Global, text: &str, most_leaves: u32) -> Result<String, Fail> 
 }
 
 /// The outcome that a row begins with, and that of the text behind it.
-fn outcomes(
+pub(crate) fn outcomes(
     alloc: Global,
     row: &'static str,
     most_leaves: u32,

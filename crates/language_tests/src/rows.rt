@@ -18,11 +18,11 @@ fn push_turn(alloc: Global, text: &mut String, piece: &str, turn: u32) -> Result
     Ok(())
 }
 
-/// The text of a row, in which a part `{N*PIECE}` stands for N times the piece.
+/// The text of a row, in which a part `<N*PIECE>` stands for N times the piece.
 pub(crate) fn expanded(alloc: Global, row: &str) -> Result<String, Fail> {
     let mut text = String::new(alloc);
-    for part in row.split('{') {
-        match part.split_once('}') {
+    for part in row.split('<') {
+        match part.split_once('>') {
             None => text.push_str(part)?,
             Some((repeated, rest)) => {
                 let (times, piece) = repeated.split_once('*').ok_or("no number")?;

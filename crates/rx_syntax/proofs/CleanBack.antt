@@ -12,7 +12,7 @@ use Rattle.rx_syntax.specs.declared.machine.Due.TheVariants.{FirstLine, NextExpr
 use Rattle.rx_syntax.specs.declared.machine.State.{State}
 use Rattle.rx_syntax.specs.declared.spec_code.SpecCode.{SpecCode}
 use Rattle.rx_syntax.specs.Machine.{at, step, missing, next_state, run, token_step}
-use Rattle.rx_syntax.proofs.Moves.{Moves, first_line, line_name, line_names, line_end, next_line, first_symbol, symbol_name, symbol_equals, symbol_pattern, symbol_end, next_symbol, first_output, output_name, output_names, output_end, next_output, first_expr, part_name, part_open, rest_name, rest_open, rest_close, rest_bar, rest_star, rest_plus, rest_question, rest_mark, rest_end, mark_name, next_expr, run_append, run_dead}
+use Rattle.rx_syntax.proofs.Moves.{Moves, first_line, line_name, line_names, line_end, next_line, first_symbol, symbol_name, symbol_equals, symbol_pattern, symbol_end, next_symbol, first_output, output_name, output_names, output_end, next_output, first_expr, part_name, part_open, rest_name, rest_open, rest_close, rest_bar, rest_star, rest_plus, rest_question, rest_mark, rest_end, mark_name, next_expr, pattern_bits, first_scan, next_scan, part_class, rest_class, class_name, class_names, class_close, rest_brace, least_bits, least_number, bounds_comma, most_bits, most_number, bounds_end, run_append, run_dead}
 use Rattle.rx_syntax.proofs.Codes.{move_of, open_run, Outcome, is_bad, is_early, is_stuck, is_deep, is_fine, outcome}
 use Rattle.rx_syntax.proofs.Standing.{Answer, token_answer}
 use Rattle.rx_syntax.proofs.Derived.{specified_run}
@@ -49,6 +49,21 @@ not_early rest_mark = refl
 not_early rest_end = refl
 not_early mark_name = refl
 not_early next_expr = refl
+not_early pattern_bits = refl
+not_early first_scan = refl
+not_early next_scan = refl
+not_early part_class = refl
+not_early rest_class = refl
+not_early class_name = refl
+not_early class_names = refl
+not_early class_close = refl
+not_early rest_brace = refl
+not_early least_bits = refl
+not_early least_number = refl
+not_early bounds_comma = refl
+not_early most_bits = refl
+not_early most_number = refl
+not_early bounds_end = refl
 
 not_bad : {due now : Due} {d e : ℕ} → Moves due Bad d now e → ⊥
 not_bad h = elim h [ ]

@@ -1,19 +1,22 @@
 -- How deep parentheses nest: an expression is printed with no more of them than the text that it was read from.
 use Rattle.std.proofs.Common.{◌≡◌, ℕ, zero, suc, ◌+◌, ◌<◌, ◌≤◌, ◌⊎◌, inl, inr, Bool, true, false, List, [], ◌∷◌, ◌++◌, refl, ap, sym, ◌∙◌, subst, arith}
-use Rattle.std.specs.Prelude.{max, pred, length, slice_index_or}
+use Rattle.std.specs.Prelude.{max, pred, length, fold, slice_index_or, if◌then◌else◌}
+use Rattle.std.specs.Fmt.{decimal}
+use Rattle.std.specs.List.{list_all}
 use Rattle.std.proofs.lemmas.Bool.{cases_eq}
 use Rattle.rx_lang.specs.Expression as lang
 use Rattle.rx_lang.specs.Expression.{Expr}
-use Rattle.rx_syntax.specs.Lexemes.{Lexeme}
-use Rattle.rx_syntax.specs.Grammar.{Tree, Level, unions, sequences, parts, Derives, named, closed, starred, looped, optioned, noted, alone, followed, single, either}
+use Rattle.rx_text.specs.NumberInText.{is_digit}
+use Rattle.rx_syntax.specs.Tokens.{is_place_byte}
+use Rattle.rx_syntax.specs.Lexemes.{Lexeme, run_kind}
+use Rattle.rx_syntax.specs.Grammar.{Tree, leaf, union, Level, unions, sequences, parts, AreNames, IsNumber, class_tree, Derives, named, closed, classed, starred, looped, optioned, noted, repeated, alone, followed, single, either}
 use Rattle.rx_syntax.specs.Accepted.{resolve}
-use Rattle.rx_syntax.specs.Printed.{bounds_text}
 use Rattle.rx_syntax.specs.Refusals.{opened, open_after, Clean, none, next}
 use Rattle.rx_syntax.specs.declared.kind.Kind.{Kind}
-use Rattle.rx_syntax.specs.declared.kind.Kind.TheVariants.{Bad, Name, Bar, Star, Plus, Question, Mark, Open, Close}
+use Rattle.rx_syntax.specs.declared.kind.Kind.TheVariants.{Name, Bits, Pattern, Number, Run, Bar, Star, Plus, Question, Mark, Open, Close, OpenBrace, CloseBrace, Comma, OpenBracket, CloseBracket}
 use Rattle.rx_syntax.specs.declared.spec_code.SpecCode.TheVariants.{S14}
 use Rattle.rx_syntax.proofs.Bits.{Bit, blank, piece, bits_text, tokens_of, tokens_append}
-use Rattle.rx_syntax.proofs.PrintedExprs.{natural, needs, enclosed_bits, expr_bits}
+use Rattle.rx_syntax.proofs.PrintedExprs.{natural, needs, enclosed_bits, bounds_bits, expr_bits}
 
 -- the most parentheses that are open before, between and behind the tokens
 abbrev pub deepest : ℕ → List Lexeme → ℕ
@@ -64,6 +67,19 @@ sequences_need parts n = omega arith
 
 -- an expression closes what it opens
 
+names_balanced : (ts : List Lexeme) → AreNames ts → (d : ℕ) → open_after d ts ≡ d
+names_balanced [] h d = refl
+names_balanced (t ∷ ts) (k, h) d = ap (λ k. open_after (opened k d) ts) k ∙ names_balanced ts h d
+
+number_opens : (t : Lexeme) → IsNumber t → (d : ℕ) → opened t.kind d ≡ d
+number_opens t (inl e) d = ap (λ k. opened k d) e
+number_opens t (inr e) d = ap (λ k. opened k d) e
+
+bounds_balanced : (o least comma most c : Lexeme) → o.kind ≡ OpenBrace → IsNumber least → comma.kind ≡ Comma → IsNumber most → c.kind ≡ CloseBrace
+    → (d : ℕ) → open_after d (o ∷ least ∷ comma ∷ most ∷ c ∷ []) ≡ d
+bounds_balanced o least comma most c ko kl kc km ke d =
+    rw (ko, number_opens least kl d, kc, number_opens most km d, ke) refl
+
 pub balanced : {l : Level} {xs : List Lexeme} {e : Tree} → Derives l xs e → (d : ℕ) → open_after d xs ≡ d
 balanced (named {t = t} k whole) d = ap (open_after d) whole ∙ ap (λ k. opened k d) k
 balanced (closed {ys = ys} o c ko kc whole inner) d =
@@ -78,6 +94,12 @@ balanced (optioned {ys = ys} s k whole inner) d =
 balanced (noted {ys = ys} s {t = t} k n whole inner) d =
     ap (open_after d) whole ∙ open_append d ys (s ∷ t ∷ []) ∙ ap (λ m. opened t.kind (opened s.kind m)) (balanced inner d)
     ∙ ap (λ k. opened t.kind (opened k d)) k ∙ ap (λ k. opened k d) n
+balanced (classed o t c names ko kc are whole) d =
+    ap (open_after d) whole ∙ ap (λ k. open_after (opened k d) ((t ∷ names) ++ (c ∷ []))) ko ∙ open_append (suc d) (t ∷ names) (c ∷ [])
+    ∙ ap (λ n. opened c.kind n) (names_balanced (t ∷ names) are (suc d)) ∙ ap (λ k. opened k (suc d)) kc
+balanced (repeated {ys = ys} o least comma most c ko kl kc km ke whole inner) d =
+    let bounds = o ∷ least ∷ comma ∷ most ∷ c ∷ [] in
+    ap (open_after d) whole ∙ open_append d ys bounds ∙ ap (λ n. open_after n bounds) (balanced inner d) ∙ bounds_balanced o least comma most c ko kl kc km ke d
 balanced (alone inner) d = balanced inner d
 balanced (followed {ys = ys} {zs = zs} whole first second) d =
     ap (open_after d) whole ∙ open_append d ys zs ∙ ap (λ n. open_after n zs) (balanced first d) ∙ balanced second d
@@ -89,6 +111,11 @@ balanced (either {ys = ys} {zs = zs} b k whole first second) d =
 module _ (symbol output : List ℕ → ℕ) (text : List ℕ) where
   abbrev meant : Tree → Expr
   meant t = resolve symbol output text t
+
+  -- a class is printed with one parenthesis at most
+  class_flat : (e : Tree) (ts : List Lexeme) → depth (meant e) ≡ 0 → depth (meant (fold (λ e u. union e (leaf u)) e ts)) ≡ 0
+  class_flat e [] flat = flat
+  class_flat e (t ∷ ts) flat = class_flat (union e (leaf t)) ts (omega (arith, flat))
 
   -- tokens behind others change nothing
   front_deep : (d n : ℕ) (xs ys zs : List Lexeme) → zs ≡ xs ++ ys → d + n ≤ deepest d xs → d + n ≤ deepest d zs
@@ -110,6 +137,19 @@ module _ (symbol output : List ℕ → ℕ) (text : List ℕ) where
       front_deep d (held (needs parts (natural (meant e))) (depth (meant e))) ys (s ∷ []) xs whole (deep_enough inner d)
   deep_enough (noted {xs = xs} {ys = ys} {e = e} s {t = t} k n whole inner) d =
       front_deep d (held (needs parts (natural (meant e))) (depth (meant e))) ys (s ∷ t ∷ []) xs whole (deep_enough inner d)
+  deep_enough (classed {xs = xs} o t c names ko kc are whole) d =
+      let e = class_tree t names in
+      let cut : deepest d xs ≡ max d (deepest (suc d) ((t ∷ names) ++ (c ∷ []))) =
+      ap (deepest d) whole ∙ ap (λ k. max d (deepest (opened k d) ((t ∷ names) ++ (c ∷ [])))) ko in
+      omega (
+        arith,
+        cut,
+        deepest_from (suc d) ((t ∷ names) ++ (c ∷ [])),
+        held_most (needs parts (natural (meant e))) (depth (meant e)),
+        class_flat (leaf t) names refl,
+      )
+  deep_enough (repeated {xs = xs} {ys = ys} {e = e} o least comma most c ko kl kc km ke whole inner) d =
+      front_deep d (held (needs parts (natural (meant e))) (depth (meant e))) ys (o ∷ least ∷ comma ∷ most ∷ c ∷ []) xs whole (deep_enough inner d)
   deep_enough (alone {e = e} inner) d = omega (arith, deep_enough inner d, parts_need (natural (meant e)) (depth (meant e)))
   deep_enough (followed {xs = xs} {ys = ys} {zs = zs} {e = e} {f = f} whole first second) d =
       let cut : deepest d xs ≡ max (deepest d ys) (deepest d zs) =
@@ -130,10 +170,16 @@ pred_low : (n : ℕ) → pred n ≤ n
 pred_low zero = omega arith
 pred_low (suc n) = omega arith
 
-opens_or_not : (k : Kind) (d : ℕ) → (k ≡ Open) ⊎ (opened k d ≤ d)
-opens_or_not Open d = inl refl
+opens_or_not : (k : Kind) (d : ℕ) → ((k ≡ Open) ⊎ (k ≡ OpenBracket)) ⊎ (opened k d ≤ d)
+opens_or_not Open d = inl (inl refl)
+opens_or_not OpenBracket d = inl (inr refl)
 opens_or_not Close d = inr (pred_low d)
+opens_or_not CloseBracket d = inr (pred_low d)
 opens_or_not k d = inr (omega arith)
+
+opens_one : (k : Kind) (d : ℕ) → (k ≡ Open) ⊎ (k ≡ OpenBracket) → opened k d ≡ suc d
+opens_one k d (inl e) = ap (λ k. opened k d) e
+opens_one k d (inr e) = ap (λ k. opened k d) e
 
 -- where no code stands, at most 200 parentheses are open
 pub clean_deepest : {xs : List Lexeme} → Clean xs → deepest 0 xs ≤ 200
@@ -147,7 +193,7 @@ clean_deepest (next {xs = xs} {ys = ys} t whole clean stands) =
       | inl open_now ↦ elim (cases_eq now 200) [
         | inl full ↦ absurd (stands S14 (open_now, full))
         | inr less ↦ (
-            let rises : opened t.kind now ≡ suc now = ap (λ k. opened k now) open_now in
+            let rises = opens_one t.kind now open_now in
             let under : now < 200 = omega (arith, low, before, less) in
             omega (arith, cut, before, low, rises, under))
       ]
@@ -194,6 +240,27 @@ flat_enclosed true xs n h place d =
     ap (deepest (suc d)) cut ∙ deepest_append (suc d) ts us ∙ ap (λ k. max (deepest (suc d) ts) (deepest k us)) inner.0 in
     (ap (open_after (suc d)) cut ∙ open_append (suc d) ts us ∙ ap (λ k. open_after k us) inner.0, omega (arith, deep, inner.1))
 
+-- a run opens nothing
+pub run_opens : (run : List ℕ) (d : ℕ) → opened (run_kind run) d ≡ d
+run_opens run d = by_tests (list_all is_place_byte run) (list_all is_digit run)
+  where
+    by_tests : (places digits : Bool) → opened (if places then (if digits then Bits else Pattern) else (if digits then Number else Run)) d ≡ d
+    by_tests true true = refl
+    by_tests true false = refl
+    by_tests false true = refl
+    by_tests false false = refl
+
+bounds_flat : (m n : ℕ) → IsFlat (bounds_bits m n) 0
+bounds_flat m n =
+    let close : List Bit = piece CloseBrace (125 ∷ []) ∷ [] in
+    let four : List Bit = piece (run_kind (decimal n)) (decimal n) ∷ close in
+    let three : List Bit = piece Comma (44 ∷ []) ∷ four in
+    let two : List Bit = piece (run_kind (decimal m)) (decimal m) ∷ three in
+    flat_piece OpenBrace (123 ∷ []) two 0 (λ d. refl)
+    (flat_piece (run_kind (decimal m)) (decimal m) three 0 (run_opens (decimal m))
+    (flat_piece Comma (44 ∷ []) four 0 (λ d. refl)
+    (flat_piece (run_kind (decimal n)) (decimal n) close 0 (run_opens (decimal n)) (flat_piece CloseBrace (125 ∷ []) [] 0 (λ d. refl) (flat_none 0)))))
+
 module _ (symbols outputs : List (List ℕ)) where
   flat_sign : (f : Expr) (ys : List Bit) → IsFlat (expr_bits symbols outputs f) (depth f) → IsFlat ys 0
       → IsFlat (enclosed_bits (needs parts (natural f)) (expr_bits symbols outputs f) ++ ys) (held (needs parts (natural f)) (depth f))
@@ -224,4 +291,4 @@ module _ (symbols outputs : List (List ℕ)) where
       flat_sign f (blank 32 ∷ piece Mark (33 ∷ []) ∷ name) (expr_flat f)
       (flat_blank 32 (piece Mark (33 ∷ []) ∷ name) 0 (flat_piece Mark (33 ∷ []) name 0 (λ d. refl)
       (flat_piece Name (slice_index_or outputs y []) [] 0 (λ d. refl) (flat_none 0))))
-  expr_flat (lang.repeated f m n) = flat_sign f (piece Bad (bounds_text m n) ∷ []) (expr_flat f) (flat_piece Bad (bounds_text m n) [] 0 (λ d. refl) (flat_none 0))
+  expr_flat (lang.repeated f m n) = flat_sign f (bounds_bits m n) (expr_flat f) (bounds_flat m n)

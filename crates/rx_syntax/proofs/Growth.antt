@@ -57,6 +57,8 @@ module _ (symbols : List NamedPattern) (outputs : List (List ℕ)) where
     grown : {nodes more : List ExprNode} {before opens : List Entry} (node : ExprNode) (xs taken ys : List Entry) (tree : Expr)
         → Makes node taken tree → before ≡ xs ++ (taken ++ ys) → more ≡ nodes ++ (node ∷ [])
         → opens ≡ xs ++ (record { number = length nodes; tree = tree } ∷ ys) → Growth nodes before → Growth more opens
+    swapped : {nodes : List ExprNode} {before opens : List Entry} (xs ys zs : List Entry) → before ≡ xs ++ (ys ++ zs) → opens ≡ xs ++ (zs ++ ys)
+        → Growth nodes before → Growth nodes opens
 
 -- meanings
 
@@ -183,6 +185,13 @@ module _ {symbols : List NamedPattern} {outputs : List (List ℕ)} where
       ap (λ t. trees nodes ++ (t ∷ [])) (sym is) ∙ sym (trees_more nodes node) ∙ ap trees (sym longer) in
       subst (λ es. Mean (trees more) es) (sym open_now)
       (subst (λ made. Mean made (xs ++ (record { number = length nodes; tree = tree } ∷ ys))) all new)
+  grown_mean (swapped {nodes = nodes} xs ys zs cut open_now g) =
+      let made = trees nodes in
+      let old : Mean made (xs ++ (ys ++ zs)) = subst (λ es. Mean made es) cut (grown_mean g) in
+      let rest = mean_rest made xs (ys ++ zs) old in
+      subst (λ es. Mean made es) (sym open_now)
+      (mean_append made xs (zs ++ ys) (mean_front made xs (ys ++ zs) old)
+      (mean_append made zs ys (mean_rest made ys zs rest) (mean_front made ys zs rest)))
 
   pub grown_uses : {nodes : List ExprNode} {es : List Entry} → Growth symbols outputs nodes es → (k : ℕ) → UsedOnce nodes es k
   grown_uses nothing k = record { once = λ lt. absurd (omega (arith, lt)); never = λ le. refl }
@@ -205,6 +214,19 @@ module _ {symbols : List NamedPattern} {outputs : List (List ℕ)} where
           never = λ h. omega (arith, new, old.never (omega (arith, gt)), not_new (length nodes) k (λ e. omega (arith, e, gt)));
         }
       ]))
+  grown_uses (swapped {nodes = nodes} {before = before} {opens = opens} xs ys zs cut open_now g) k =
+      let old = grown_uses g k in
+      let same : held k opens ≡ held k before =
+      omega (
+        arith,
+        ap (held k) cut,
+        ap (held k) open_now,
+        held_append k xs (ys ++ zs),
+        held_append k ys zs,
+        held_append k xs (zs ++ ys),
+        held_append k zs ys,
+      ) in
+      record { once = λ lt. omega (arith, same, old.once lt); never = λ le. omega (arith, same, old.never le) }
 
   -- each child stands before its parent
   pub grown_before : {nodes : List ExprNode} {es : List Entry} → Growth symbols outputs nodes es
@@ -229,6 +251,7 @@ module _ {symbols : List NamedPattern} {outputs : List (List ℕ)} where
             (subst (λ n. All (λ child. child < n) (map (λ (e : Entry). e.number) taken)) (length-trees nodes) low) in
             subst (λ n. All (λ child. child < n) (children node)) (sym last) (subst (λ m. All (λ child. child < length nodes) (children m)) is here))
       ]
+  grown_before (swapped xs ys zs cut open_now g) k node has = grown_before g k node has
 
   pub grown_named : {nodes : List ExprNode} {es : List Entry} → Growth symbols outputs nodes es
       → (tables : Tables) → tables.symbols ≡ symbols → tables.outputs ≡ outputs → All (NamesEntries tables) nodes
@@ -237,12 +260,14 @@ module _ {symbols : List NamedPattern} {outputs : List (List ℕ)} where
       subst (λ ns. All (NamesEntries tables) ns) (sym longer)
       (All-append (NamesEntries tables) nodes (node ∷ []) (grown_named g tables s o)
       (All-cons (NamesEntries tables) node [] (makes.named tables s o) (All-nil (NamesEntries tables))))
+  grown_named (swapped xs ys zs cut open_now g) tables s o = grown_named g tables s o
 
   pub grown_bounds : {nodes : List ExprNode} {es : List Entry} → Growth symbols outputs nodes es → All HasBounds nodes
   grown_bounds nothing = All-nil HasBounds
   grown_bounds (grown {nodes = nodes} {before = before} node xs taken ys tree makes cut longer open_now g) =
       subst (λ ns. All HasBounds ns) (sym longer)
       (All-append HasBounds nodes (node ∷ []) (grown_bounds g) (All-cons HasBounds node [] makes.bounds (All-nil HasBounds)))
+  grown_bounds (swapped xs ys zs cut open_now g) = grown_bounds g
 
 length_times : (n : ℕ) (xs : List ℕ) → length (times n xs) ≡ n * length xs
 length_times zero xs = omega arith

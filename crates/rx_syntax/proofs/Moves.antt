@@ -1,11 +1,11 @@
 -- The legal moves of the machine, one by one.
 use Rattle.std.proofs.Common.{◌≡◌, ℕ, zero, suc, Some, None, List, [], ◌∷◌, ◌++◌, refl}
-use Rattle.std.specs.Prelude.{Option, ⊤}
+use Rattle.std.specs.Prelude.{Option, pred, ⊤}
 use Rattle.rx_syntax.specs.Lexemes.{Lexeme}
 use Rattle.rx_syntax.specs.declared.kind.Kind.{Kind}
-use Rattle.rx_syntax.specs.declared.kind.Kind.TheVariants.{Name, Pattern, Line, Symbol, Output, Expr, Bar, Star, Plus, Question, Mark, Open, Close, Equals, Semicolon}
+use Rattle.rx_syntax.specs.declared.kind.Kind.TheVariants.{Name, Bits, Pattern, Number, Line, Symbol, Output, Expr, Scan, Bar, Star, Plus, Question, Mark, Open, Close, Equals, Semicolon, OpenBrace, CloseBrace, Comma, OpenBracket, CloseBracket}
 use Rattle.rx_syntax.specs.declared.machine.Due.{Due}
-use Rattle.rx_syntax.specs.declared.machine.Due.TheVariants.{FirstLine, LineName, MoreNames, NextLine, SymbolName, SymbolEquals, SymbolPattern, SymbolEnd, NextSymbol, OutputName, MoreOutputs, NextOutput, Part, Rest, MarkName, NextExpr}
+use Rattle.rx_syntax.specs.declared.machine.Due.TheVariants.{FirstLine, LineName, MoreNames, NextLine, SymbolName, SymbolEquals, SymbolPattern, SymbolEnd, NextSymbol, OutputName, MoreOutputs, NextOutput, Part, Rest, MarkName, ClassName, ClassNames, Least, Between, Most, BoundsEnd, NextExpr}
 use Rattle.rx_syntax.specs.declared.machine.State.{State}
 use Rattle.rx_syntax.specs.Machine.{step, next_state, run}
 
@@ -40,6 +40,21 @@ pub data Moves : Due → Kind → ℕ → Due → ℕ → Type 0 where
   rest_end : Moves Rest Semicolon zero NextExpr 0
   mark_name : {d : ℕ} → Moves MarkName Name d Rest d
   next_expr : {d : ℕ} → Moves NextExpr Expr d Part 0
+  pattern_bits : {d : ℕ} → Moves SymbolPattern Bits d SymbolEnd 0
+  first_scan : {d : ℕ} → Moves NextOutput Scan d Part 0
+  next_scan : {d : ℕ} → Moves NextExpr Scan d Part 0
+  part_class : {d : ℕ} → Moves Part OpenBracket d ClassName (suc d)
+  rest_class : {d : ℕ} → Moves Rest OpenBracket d ClassName (suc d)
+  class_name : {d : ℕ} → Moves ClassName Name d ClassNames d
+  class_names : {d : ℕ} → Moves ClassNames Name d ClassNames d
+  class_close : {d : ℕ} → Moves ClassNames CloseBracket d Rest (pred d)
+  rest_brace : {d : ℕ} → Moves Rest OpenBrace d Least d
+  least_bits : {d : ℕ} → Moves Least Bits d Between d
+  least_number : {d : ℕ} → Moves Least Number d Between d
+  bounds_comma : {d : ℕ} → Moves Between Comma d Most d
+  most_bits : {d : ℕ} → Moves Most Bits d BoundsEnd d
+  most_number : {d : ℕ} → Moves Most Number d BoundsEnd d
+  bounds_end : {d : ℕ} → Moves BoundsEnd CloseBrace d Rest d
 
 -- Where the machine moves by a legal move, it moves to a state.
 abbrev pub Moved : Due → Kind → ℕ → Option State → Type 0
@@ -77,6 +92,21 @@ moved Rest Mark d = rest_mark
 moved Rest Semicolon zero = rest_end
 moved MarkName Name d = mark_name
 moved NextExpr Expr d = next_expr
+moved SymbolPattern Bits d = pattern_bits
+moved NextOutput Scan d = first_scan
+moved NextExpr Scan d = next_scan
+moved Part OpenBracket d = part_class
+moved Rest OpenBracket d = rest_class
+moved ClassName Name d = class_name
+moved ClassNames Name d = class_names
+moved ClassNames CloseBracket d = class_close
+moved Rest OpenBrace d = rest_brace
+moved Least Bits d = least_bits
+moved Least Number d = least_number
+moved Between Comma d = bounds_comma
+moved Most Bits d = most_bits
+moved Most Number d = most_number
+moved BoundsEnd CloseBrace d = bounds_end
 moved due k d = tt
 
 -- a list after another

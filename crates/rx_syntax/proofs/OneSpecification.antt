@@ -7,23 +7,20 @@ use Rattle.rx_syntax.specs.Refusals.{IsShaped}
 use Rattle.rx_syntax.specs.Uses.{undeclared, syntax_uses, first_use_fault}
 use Rattle.rx_syntax.specs.Accepted.{said, Says, Accepted, Refused}
 use Rattle.rx_syntax.specs.declared.spec_code.SpecCode.{SpecCode}
-use Rattle.rx_syntax.proofs.OneAnswer.{tokens_unique, one_of_both, not_both, one_fault}
+use Rattle.rx_syntax.proofs.OneAnswer.{one_list, says, one_of_both, not_both, one_fault}
 use Rattle.rx_syntax.proofs.BuiltSyntax.{one_syntax}
 
 -- a text says one thing
 pub says_one : (text : List ℕ) (s r : Syntax) → Says text s → Says text r → s ≡ r
 says_one text s r x y =
-    let same = tokens_unique x.are_tokens y.are_tokens in
+    let same = one_list text x.are_tokens y.are_tokens in
     one_syntax y.tokens s r (subst (λ ts. Specifies ts s) same x.specifies) y.specifies
 
 shaped : (text : List ℕ) (s : Syntax) → Says text s → IsShaped text
 shaped text s x = record { tokens = x.tokens; are_tokens = x.are_tokens; clean = x.clean; syntax = s; specifies = x.specifies }
 
-pub says : (text : List ℕ) → (x : IsShaped text) → Says text x.syntax
-says text x = record { tokens = x.tokens; are_tokens = x.are_tokens; clean = x.clean; specifies = x.specifies }
-
 by_uses : (text : List ℕ) (limit : ℕ) (s : Syntax) → Says text s → (o : Option (SpecCode × ℕ))
-    → first_use_fault text limit undeclared (syntax_uses s) ≡ o
+    → first_use_fault text limit undeclared (syntax_uses text s) ≡ o
     → ((spec : Specification) × Accepted text limit spec) ⊎ ((code : SpecCode) × (place : ℕ) × Refused text limit code place)
 by_uses text limit s x None e = inl (said text s, record { syntax = s; says = x; no_fault = e; is = refl })
 by_uses text limit s x (Some (code, place)) e = inr (code, place, inr (record { syntax = s; says = x; fault = e }))
@@ -31,14 +28,14 @@ by_uses text limit s x (Some (code, place)) e = inr (code, place, inr (record { 
 pub accepted_or_refused : (text : List ℕ) (limit : ℕ)
     → ((spec : Specification) × Accepted text limit spec) ⊎ ((code : SpecCode) × (place : ℕ) × Refused text limit code place)
 accepted_or_refused text limit = elim (one_of_both text) [
-  | inl x ↦ by_uses text limit x.syntax (says text x) (first_use_fault text limit undeclared (syntax_uses x.syntax)) refl
+  | inl x ↦ by_uses text limit x.syntax (says text x) (first_use_fault text limit undeclared (syntax_uses text x.syntax)) refl
   | inr (code, place, stands) ↦ inr (code, place, inl stands)
 ]
 
 -- the first fault of names is that of the one thing that the text says
 same_faults : (text : List ℕ) (limit : ℕ) (s r : Syntax) → Says text s → Says text r
-    → first_use_fault text limit undeclared (syntax_uses s) ≡ first_use_fault text limit undeclared (syntax_uses r)
-same_faults text limit s r x y = ap (λ s. first_use_fault text limit undeclared (syntax_uses s)) (says_one text s r x y)
+    → first_use_fault text limit undeclared (syntax_uses text s) ≡ first_use_fault text limit undeclared (syntax_uses text r)
+same_faults text limit s r x y = ap (λ s. first_use_fault text limit undeclared (syntax_uses text s)) (says_one text s r x y)
 
 pub not_accepted_and_refused : (text : List ℕ) (limit : ℕ) (spec : Specification) (code : SpecCode) (place : ℕ) → Accepted text limit spec
     → Refused text limit code place → ⊥

@@ -1,5 +1,5 @@
 -- The groups of a growing table beside the open expressions that the tokens build.
-use Rattle.std.proofs.Common.{◌≡◌, ℕ, ◌<◌, Some, None, List, [], ◌∷◌, ◌++◌, length, refl, ap, sym, ◌∙◌, subst}
+use Rattle.std.proofs.Common.{◌≡◌, ℕ, ◌<◌, ◌≤◌, Some, None, List, [], ◌∷◌, ◌++◌, length, refl, ap, sym, ◌∙◌, subst}
 use Rattle.std.specs.Prelude.{Option}
 use Rattle.std.proofs.lemmas.List.{append_assoc, append-nil}
 use Rattle.std.proofs.lemmas.Option.{get_or_from_slice_get}
@@ -9,9 +9,9 @@ use Rattle.rx_lang.specs.Expression as lang
 use Rattle.rx_lang.specs.Expression.{Expr}
 use Rattle.rx_lang.specs.Specification.{NamedPattern}
 use Rattle.rx_lang.specs.Tables.{tree_at}
-use Rattle.rx_syntax.specs.Lexemes.{Lexeme}
-use Rattle.rx_syntax.specs.Grammar.{Tree, leaf, union, sequence, star, plus, optional, marked}
-use Rattle.rx_syntax.specs.Uses.{word_of}
+use Rattle.rx_syntax.specs.Lexemes.{Lexeme, word_of}
+use Rattle.rx_syntax.specs.Grammar.{Tree, leaf, union, sequence, star, plus, optional, marked, counted}
+use Rattle.rx_syntax.specs.Uses.{number_of}
 use Rattle.rx_syntax.specs.Accepted.{number_in, resolve}
 use Rattle.rx_syntax.specs.NameTables.{names_of}
 use Rattle.rx_syntax.proofs.Builder as built
@@ -113,6 +113,16 @@ module _ (symbols : List NamedPattern) (outputs : List (List ℕ)) (text : List 
     makes = λ made h. ap (λ x. lang.marked x (number_in outputs (word_of text t))) (get_or_from_slice_get made n (numbered e) (lang.symbol 0) h.0);
     bounds = tt;
     named = λ tables es eo. subst (λ os. number_in outputs (word_of text t) < length os) (sym eo) lt;
+  }
+
+  pub counted_makes : (least most c : Lexeme) → number_of text least ≤ number_of text most → 1 ≤ number_of text most → number_of text most ≤ 255
+      → SignMakes (signs.Counted (number_of text least) (number_of text most)) (λ e. counted e least most c)
+  counted_makes least most c ordered some low n e = record {
+    takes = refl;
+    makes = λ made h. ap (λ x. lang.repeated x (number_of text least) (number_of text most))
+        (get_or_from_slice_get made n (numbered e) (lang.symbol 0) h.0);
+    bounds = (ordered, some, low);
+    named = λ tables es eo. tt;
   }
 
   -- growth by one node

@@ -1,17 +1,17 @@
 -- What the tokens that were read are, in each state of the machine.
 use Rattle.std.proofs.Common.{◌≡◌, ℕ, zero, suc, Some, None, List, [], ◌∷◌, ◌++◌, refl, ap, sym, ◌∙◌, subst, inl, inr}
-use Rattle.std.specs.Prelude.{Option, ◌≢◌, ◌⊎◌, ⊤}
+use Rattle.std.specs.Prelude.{Option, Bool, true, false, pred, ◌≢◌, ◌⊎◌, ⊤}
 use Rattle.std.proofs.lemmas.List.{append_assoc, append-nil}
 use Rattle.rx_syntax.specs.Lexemes.{Lexeme}
-use Rattle.rx_syntax.specs.Grammar.{Tree, AreNames, NamesOf, SymbolTokens, SymbolOf, ExprOf, Statements, one, more, Joined, Lines, LinesSymbols, LinesSymbolsOutputs, Syntax, Specifies}
+use Rattle.rx_syntax.specs.Grammar.{StatementTree, AreNames, IsPattern, keyword_of, NamesOf, SymbolTokens, SymbolOf, ExprOf, Statements, one, more, Joined, Lines, LinesSymbols, LinesSymbolsOutputs, Syntax, Specifies}
 use Rattle.rx_syntax.specs.declared.kind.Kind.{Kind}
-use Rattle.rx_syntax.specs.declared.kind.Kind.TheVariants.{Name, Pattern, Line, Symbol, Output, Expr, Equals, Semicolon}
+use Rattle.rx_syntax.specs.declared.kind.Kind.TheVariants.{Name, Line, Symbol, Output, Expr, Scan, Equals, Semicolon}
 use Rattle.rx_syntax.specs.declared.machine.Due.{Due}
-use Rattle.rx_syntax.specs.declared.machine.Due.TheVariants.{FirstLine, LineName, MoreNames, NextLine, SymbolName, SymbolEquals, SymbolPattern, SymbolEnd, NextSymbol, OutputName, MoreOutputs, NextOutput, Part, Rest, MarkName, NextExpr}
+use Rattle.rx_syntax.specs.declared.machine.Due.TheVariants.{FirstLine, LineName, MoreNames, NextLine, SymbolName, SymbolEquals, SymbolPattern, SymbolEnd, NextSymbol, OutputName, MoreOutputs, NextOutput, Part, Rest, MarkName, ClassName, ClassNames, Least, Between, Most, BoundsEnd, NextExpr}
 use Rattle.rx_syntax.specs.declared.machine.State.{State}
 use Rattle.rx_syntax.specs.Machine.{at, step, next_state, run}
-use Rattle.rx_syntax.proofs.Moves.{Moves, first_line, line_name, line_names, line_end, next_line, first_symbol, symbol_name, symbol_equals, symbol_pattern, symbol_end, next_symbol, first_output, output_name, output_names, output_end, next_output, first_expr, part_name, part_open, rest_name, rest_open, rest_close, rest_bar, rest_star, rest_plus, rest_question, rest_mark, rest_end, mark_name, next_expr, Moved, moved}
-use Rattle.rx_syntax.proofs.Fronts.{PartDue, RestDue, MarkDue, starts_part, name_as_part, opens_part, name_goes_on, opens_next, bar_goes_on, star_goes_on, plus_goes_on, question_goes_on, mark_goes_on, names_mark, closes_part, is_expression}
+use Rattle.rx_syntax.proofs.Moves.{Moves, first_line, line_name, line_names, line_end, next_line, first_symbol, symbol_name, symbol_equals, symbol_pattern, symbol_end, next_symbol, first_output, output_name, output_names, output_end, next_output, first_expr, part_name, part_open, rest_name, rest_open, rest_close, rest_bar, rest_star, rest_plus, rest_question, rest_mark, rest_end, mark_name, next_expr, pattern_bits, first_scan, next_scan, part_class, rest_class, class_name, class_names, class_close, rest_brace, least_bits, least_number, bounds_comma, most_bits, most_number, bounds_end, Moved, moved}
+use Rattle.rx_syntax.proofs.Fronts.{PartDue, RestDue, MarkDue, starts_part, name_as_part, opens_part, name_goes_on, opens_next, bar_goes_on, star_goes_on, plus_goes_on, question_goes_on, mark_goes_on, names_mark, class_opens, class_opens_next, class_first, class_goes_on, class_closes, brace_opens, least_read, comma_read, most_read, brace_closes, ClassDue, NoNames, ClassNamed, BoundsDue, BraceRead, LeastRead, CommaRead, MostRead, closes_part, is_expression}
 
 -- A section is about to begin, or has some statements.
 abbrev pub OnLines : List Lexeme → Type 0
@@ -25,7 +25,7 @@ OnOutputs xs = LinesSymbols xs ⊎ LinesSymbolsOutputs xs
 
 -- The tokens are a whole specification.
 abbrev pub All : List Lexeme → Type 0
-All xs = Joined LinesSymbolsOutputs (λ ys. (found : List Tree) × Statements ExprOf ys found) xs
+All xs = Joined LinesSymbolsOutputs (λ ys. (found : List StatementTree) × Statements ExprOf ys found) xs
 
 abbrev pub OnExprs : List Lexeme → Type 0
 OnExprs xs = LinesSymbolsOutputs xs ⊎ All xs
@@ -50,7 +50,11 @@ abbrev pub EqualsRead : List Lexeme → Type 0
 EqualsRead xs = (n : Lexeme) × (e : Lexeme) × (n.kind ≡ Name) × (e.kind ≡ Equals) × (xs ≡ n ∷ e ∷ [])
 
 abbrev pub PatternRead : List Lexeme → Type 0
-PatternRead xs = (n : Lexeme) × (e : Lexeme) × (p : Lexeme) × (n.kind ≡ Name) × (e.kind ≡ Equals) × (p.kind ≡ Pattern) × (xs ≡ n ∷ e ∷ p ∷ [])
+PatternRead xs = (n : Lexeme) × (e : Lexeme) × (p : Lexeme) × (n.kind ≡ Name) × (e.kind ≡ Equals) × IsPattern p × (xs ≡ n ∷ e ∷ p ∷ [])
+
+-- an `expr` or a `scan` statement
+abbrev pub BeganExpr : (List Lexeme → Type 0) → List Lexeme → Type 0
+BeganExpr Inside xs = (scans : Bool) × Began OnExprs (keyword_of scans) Inside xs
 
 abbrev pub Prefix : Due → ℕ → List Lexeme → Type 0
 Prefix FirstLine d xs = xs ≡ []
@@ -65,9 +69,15 @@ Prefix NextSymbol d xs = LinesSymbols xs
 Prefix OutputName d xs = Began OnOutputs Output (λ ys. ys ≡ []) xs
 Prefix MoreOutputs d xs = Began OnOutputs Output SomeNames xs
 Prefix NextOutput d xs = LinesSymbolsOutputs xs
-Prefix Part d xs = Began OnExprs Expr (PartDue d) xs
-Prefix Rest d xs = Began OnExprs Expr (RestDue d) xs
-Prefix MarkName d xs = Began OnExprs Expr (MarkDue d) xs
+Prefix Part d xs = BeganExpr (PartDue d) xs
+Prefix Rest d xs = BeganExpr (RestDue d) xs
+Prefix MarkName d xs = BeganExpr (MarkDue d) xs
+Prefix ClassName d xs = BeganExpr (ClassDue NoNames d) xs
+Prefix ClassNames d xs = BeganExpr (ClassDue ClassNamed d) xs
+Prefix Least d xs = BeganExpr (BoundsDue BraceRead d) xs
+Prefix Between d xs = BeganExpr (BoundsDue LeastRead d) xs
+Prefix Most d xs = BeganExpr (BoundsDue CommaRead d) xs
+Prefix BoundsEnd d xs = BeganExpr (BoundsDue MostRead d) xs
 Prefix NextExpr d xs = All xs
 
 -- a keyword
@@ -87,6 +97,10 @@ extend Behind key Inside Now xs t go h = record {
   whole = ap (λ ys. ys ++ (t ∷ [])) h.whole ∙ append_assoc h.past (h.keyword ∷ h.body) (t ∷ []);
   inside = go h.body h.inside;
 }
+
+extend_expr : (Inside Now : List Lexeme → Type 0) (xs : List Lexeme) (t : Lexeme) → ((ys : List Lexeme) → Inside ys → Now (ys ++ (t ∷ [])))
+    → BeganExpr Inside xs → BeganExpr Now (xs ++ (t ∷ []))
+extend_expr Inside Now xs t go (scans, h) = (scans, extend OnExprs (keyword_of scans) Inside Now xs t go h)
 
 first_name : (t : Lexeme) → t.kind ≡ Name → (ys : List Lexeme) → ys ≡ [] → SomeNames (ys ++ (t ∷ []))
 first_name t k ys e = subst (λ zs. SomeNames (zs ++ (t ∷ []))) (sym e) ((λ empty. cc), (k, tt))
@@ -108,7 +122,7 @@ name_read t k ys e = (t, k, ap (λ zs. zs ++ (t ∷ [])) e)
 equals_read : (t : Lexeme) → t.kind ≡ Equals → (ys : List Lexeme) → NameRead ys → EqualsRead (ys ++ (t ∷ []))
 equals_read t k ys (n, kn, e) = (n, t, kn, k, ap (λ zs. zs ++ (t ∷ [])) e)
 
-pattern_read : (t : Lexeme) → t.kind ≡ Pattern → (ys : List Lexeme) → EqualsRead ys → PatternRead (ys ++ (t ∷ []))
+pattern_read : (t : Lexeme) → IsPattern t → (ys : List Lexeme) → EqualsRead ys → PatternRead (ys ++ (t ∷ []))
 pattern_read t k ys (n, s, kn, ks, e) = (n, s, t, kn, ks, k, ap (λ zs. zs ++ (t ∷ [])) e)
 
 -- One more statement of a section.
@@ -138,7 +152,7 @@ outputs_more : (ys zs names : List Lexeme) → OnOutputs ys → NamesOf Output z
 outputs_more ys zs names (inl h) is = joined_first LinesSymbols ys zs names h is
 outputs_more ys zs names (inr h) is = joined_next LinesSymbols ys zs names h is
 
-exprs_more : (ys zs : List Lexeme) (found : List Tree) → OnExprs ys → ExprOf zs found → All (ys ++ zs)
+exprs_more : (ys zs : List Lexeme) (found : List StatementTree) → OnExprs ys → ExprOf zs found → All (ys ++ zs)
 exprs_more ys zs found (inl h) is = joined_first LinesSymbolsOutputs ys zs found h is
 exprs_more ys zs found (inr h) is = joined_next LinesSymbolsOutputs ys zs found h is
 
@@ -186,11 +200,12 @@ module _ (xs : List Lexeme) (t : Lexeme) (end : t.kind ≡ Semicolon) where
       } in
       subst (λ ys. LinesSymbols ys) (closed_whole h.past h.keyword h.body h.whole) (symbols_more h.past _ _ h.behind is)
 
-  exprs_end : Began OnExprs Expr (RestDue zero) xs → All (xs ++ (t ∷ []))
-  exprs_end h =
+  exprs_end : BeganExpr (RestDue zero) xs → All (xs ++ (t ∷ []))
+  exprs_end (scans, h) =
       let e = is_expression h.body h.inside in
-      let is : ExprOf (h.keyword ∷ (h.body ++ (t ∷ []))) (e.0 ∷ []) = record {
+      let is : ExprOf (h.keyword ∷ (h.body ++ (t ∷ []))) (record { scans = scans; tree = e.0 } ∷ []) = record {
         keyword = h.keyword;
+        scans = scans;
         body = h.body;
         tree = e.0;
         last = t;
@@ -212,7 +227,8 @@ prefix_step xs t next_line k h = begin OnLines Line (λ ys. ys ≡ []) xs t (inr
 prefix_step xs t first_symbol k h = begin OnSymbols Symbol (λ ys. ys ≡ []) xs t (inl h) k refl
 prefix_step xs t symbol_name k h = extend OnSymbols Symbol (λ ys. ys ≡ []) NameRead xs t (name_read t k) h
 prefix_step xs t symbol_equals k h = extend OnSymbols Symbol NameRead EqualsRead xs t (equals_read t k) h
-prefix_step xs t symbol_pattern k h = extend OnSymbols Symbol EqualsRead PatternRead xs t (pattern_read t k) h
+prefix_step xs t symbol_pattern k h = extend OnSymbols Symbol EqualsRead PatternRead xs t (pattern_read t (inr k)) h
+prefix_step xs t pattern_bits k h = extend OnSymbols Symbol EqualsRead PatternRead xs t (pattern_read t (inl k)) h
 prefix_step xs t symbol_end k h = symbols_end xs t k h
 prefix_step xs t next_symbol k h = begin OnSymbols Symbol (λ ys. ys ≡ []) xs t (inr h) k refl
 prefix_step xs t first_output k h = begin OnOutputs Output (λ ys. ys ≡ []) xs t (inl h) k refl
@@ -220,20 +236,34 @@ prefix_step xs t output_name k h = extend OnOutputs Output (λ ys. ys ≡ []) So
 prefix_step xs t output_names k h = extend OnOutputs Output SomeNames SomeNames xs t (some_names_more t k) h
 prefix_step xs t output_end k h = outputs_end xs t k h
 prefix_step xs t next_output k h = begin OnOutputs Output (λ ys. ys ≡ []) xs t (inr h) k refl
-prefix_step xs t first_expr k h = begin OnExprs Expr (PartDue zero) xs t (inl h) k (starts_part [] refl)
-prefix_step xs t (part_name {d = d}) k h = extend OnExprs Expr (PartDue d) (RestDue d) xs t (λ ys g. name_as_part d ys t g k) h
-prefix_step xs t (part_open {d = d}) k h = extend OnExprs Expr (PartDue d) (PartDue (suc d)) xs t (λ ys g. opens_part d ys t g k) h
-prefix_step xs t (rest_name {d = d}) k h = extend OnExprs Expr (RestDue d) (RestDue d) xs t (λ ys g. name_goes_on d ys t g k) h
-prefix_step xs t (rest_open {d = d}) k h = extend OnExprs Expr (RestDue d) (PartDue (suc d)) xs t (λ ys g. opens_next d ys t g k) h
-prefix_step xs t (rest_close {d = d}) k h = extend OnExprs Expr (RestDue (suc d)) (RestDue d) xs t (λ ys g. closes_part d ys t g k) h
-prefix_step xs t (rest_bar {d = d}) k h = extend OnExprs Expr (RestDue d) (PartDue d) xs t (λ ys g. bar_goes_on d ys t g k) h
-prefix_step xs t (rest_star {d = d}) k h = extend OnExprs Expr (RestDue d) (RestDue d) xs t (λ ys g. star_goes_on d ys t g k) h
-prefix_step xs t (rest_plus {d = d}) k h = extend OnExprs Expr (RestDue d) (RestDue d) xs t (λ ys g. plus_goes_on d ys t g k) h
-prefix_step xs t (rest_question {d = d}) k h = extend OnExprs Expr (RestDue d) (RestDue d) xs t (λ ys g. question_goes_on d ys t g k) h
-prefix_step xs t (rest_mark {d = d}) k h = extend OnExprs Expr (RestDue d) (MarkDue d) xs t (λ ys g. mark_goes_on d ys t g k) h
+prefix_step xs t first_expr k h = (false, begin OnExprs Expr (PartDue zero) xs t (inl h) k (starts_part [] refl))
+prefix_step xs t first_scan k h = (true, begin OnExprs Scan (PartDue zero) xs t (inl h) k (starts_part [] refl))
+prefix_step xs t next_scan k h = (true, begin OnExprs Scan (PartDue zero) xs t (inr h) k (starts_part [] refl))
+prefix_step xs t (part_name {d = d}) k h = extend_expr (PartDue d) (RestDue d) xs t (λ ys g. name_as_part d ys t g k) h
+prefix_step xs t (part_open {d = d}) k h = extend_expr (PartDue d) (PartDue (suc d)) xs t (λ ys g. opens_part d ys t g k) h
+prefix_step xs t (rest_name {d = d}) k h = extend_expr (RestDue d) (RestDue d) xs t (λ ys g. name_goes_on d ys t g k) h
+prefix_step xs t (rest_open {d = d}) k h = extend_expr (RestDue d) (PartDue (suc d)) xs t (λ ys g. opens_next d ys t g k) h
+prefix_step xs t (rest_close {d = d}) k h = extend_expr (RestDue (suc d)) (RestDue d) xs t (λ ys g. closes_part d ys t g k) h
+prefix_step xs t (rest_bar {d = d}) k h = extend_expr (RestDue d) (PartDue d) xs t (λ ys g. bar_goes_on d ys t g k) h
+prefix_step xs t (rest_star {d = d}) k h = extend_expr (RestDue d) (RestDue d) xs t (λ ys g. star_goes_on d ys t g k) h
+prefix_step xs t (rest_plus {d = d}) k h = extend_expr (RestDue d) (RestDue d) xs t (λ ys g. plus_goes_on d ys t g k) h
+prefix_step xs t (rest_question {d = d}) k h = extend_expr (RestDue d) (RestDue d) xs t (λ ys g. question_goes_on d ys t g k) h
+prefix_step xs t (rest_mark {d = d}) k h = extend_expr (RestDue d) (MarkDue d) xs t (λ ys g. mark_goes_on d ys t g k) h
 prefix_step xs t rest_end k h = exprs_end xs t k h
-prefix_step xs t (mark_name {d = d}) k h = extend OnExprs Expr (MarkDue d) (RestDue d) xs t (λ ys g. names_mark d ys t g k) h
-prefix_step xs t next_expr k h = begin OnExprs Expr (PartDue zero) xs t (inr h) k (starts_part [] refl)
+prefix_step xs t (mark_name {d = d}) k h = extend_expr (MarkDue d) (RestDue d) xs t (λ ys g. names_mark d ys t g k) h
+prefix_step xs t next_expr k h = (false, begin OnExprs Expr (PartDue zero) xs t (inr h) k (starts_part [] refl))
+prefix_step xs t (part_class {d = d}) k h = extend_expr (PartDue d) (ClassDue NoNames (suc d)) xs t (λ ys g. class_opens d ys t g k) h
+prefix_step xs t (rest_class {d = d}) k h = extend_expr (RestDue d) (ClassDue NoNames (suc d)) xs t (λ ys g. class_opens_next d ys t g k) h
+prefix_step xs t (class_name {d = d}) k h = extend_expr (ClassDue NoNames d) (ClassDue ClassNamed d) xs t (λ ys g. class_first d ys t g k) h
+prefix_step xs t (class_names {d = d}) k h = extend_expr (ClassDue ClassNamed d) (ClassDue ClassNamed d) xs t (λ ys g. class_goes_on d ys t g k) h
+prefix_step xs t (class_close {d = d}) k h = extend_expr (ClassDue ClassNamed d) (RestDue (pred d)) xs t (λ ys g. class_closes d ys t g k) h
+prefix_step xs t (rest_brace {d = d}) k h = extend_expr (RestDue d) (BoundsDue BraceRead d) xs t (λ ys g. brace_opens d ys t g k) h
+prefix_step xs t (least_bits {d = d}) k h = extend_expr (BoundsDue BraceRead d) (BoundsDue LeastRead d) xs t (λ ys g. least_read d ys t g (inl k)) h
+prefix_step xs t (least_number {d = d}) k h = extend_expr (BoundsDue BraceRead d) (BoundsDue LeastRead d) xs t (λ ys g. least_read d ys t g (inr k)) h
+prefix_step xs t (bounds_comma {d = d}) k h = extend_expr (BoundsDue LeastRead d) (BoundsDue CommaRead d) xs t (λ ys g. comma_read d ys t g k) h
+prefix_step xs t (most_bits {d = d}) k h = extend_expr (BoundsDue CommaRead d) (BoundsDue MostRead d) xs t (λ ys g. most_read d ys t g (inl k)) h
+prefix_step xs t (most_number {d = d}) k h = extend_expr (BoundsDue CommaRead d) (BoundsDue MostRead d) xs t (λ ys g. most_read d ys t g (inr k)) h
+prefix_step xs t (bounds_end {d = d}) k h = extend_expr (BoundsDue MostRead d) (RestDue d) xs t (λ ys g. brace_closes d ys t g k) h
 
 -- what the tokens are, where the machine lives
 abbrev Held : Option State → List Lexeme → Type 0

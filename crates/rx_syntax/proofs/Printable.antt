@@ -1,169 +1,165 @@
--- A specification that was accepted is printed as a text that is read back.
-use Rattle.std.proofs.Common.{◌≡◌, ℕ, zero, suc, ◌+◌, ◌-◌, ◌<◌, ◌==◌, Bool, true, false, Some, None, List, [], ◌∷◌, ◌++◌, length, map, take, drop, refl, ap, sym, ◌∙◌, subst, arith}
-use Rattle.std.specs.Prelude.{Option, ◌≢◌, ⊤, slice_index_or, bytes_eq, if◌then◌else◌}
+-- The names that a text declares are printed as names of its version, and of version 1 where that is enough.
+use Rattle.std.proofs.Common.{◌≡◌, ℕ, suc, ◌+◌, ◌-◌, ◌==◌, Bool, true, false, Some, None, List, [], ◌∷◌, ◌++◌, map, take, drop, codes, refl, ap, sym, ◌∙◌, subst, arith}
+use Rattle.std.specs.Prelude.{◌≢◌, bytes_eq, if◌then◌else◌}
 use Rattle.std.specs.List.{prefix_len}
 use Rattle.std.proofs.Math.Numerals.{one-add}
 use Rattle.std.proofs.lemmas.Bool.Decides.{nat_tests}
-use Rattle.std.proofs.lemmas.Slice.Eq.{bytes_eq-Decides}
 use Rattle.rx_text.specs.Name.{is_letter, is_name_byte}
-use Rattle.rx_syntax.specs.Tokens.{is_gap_byte, is_place_byte}
-use Rattle.rx_syntax.specs.Lexemes.{Lexeme, first_size, first_kind, token_kind, word_kind, sign_kind, LexemesFrom, ended, gap, token}
-use Rattle.rx_syntax.specs.Grammar.{SymbolTokens, Syntax}
-use Rattle.rx_syntax.specs.Uses.{Use, line_use, symbol_use, pattern_use, output_use, leaf_use, mark_use, line_uses, symbol_uses, output_uses, expr_uses, syntax_uses, word_of}
-use Rattle.rx_syntax.specs.UsesRead.{use_of, use_on, uses_along}
-use Rattle.rx_syntax.specs.Accepted.{number_in, named_pattern, Says}
+use Rattle.rx_syntax.specs.Tokens.{is_gap_byte, is_run_byte}
+use Rattle.rx_syntax.specs.Lexemes.{Lexeme, first_size, first_kind, token_kind, name_kind, scan_kind, word_kind, run_kind, sign_kind, LexemesFrom, ended, gap, token, word_of}
+use Rattle.rx_syntax.specs.Grammar.{AreNames, NamesOf, SymbolTokens, SymbolOf, Syntax}
+use Rattle.rx_syntax.specs.Accepted.{named_pattern, Says}
+use Rattle.rx_syntax.specs.declared.version.Version.{Version}
+use Rattle.rx_syntax.specs.declared.version.Version.TheVariants.{One, Two}
 use Rattle.rx_syntax.specs.declared.kind.Kind.{Kind}
 use Rattle.rx_syntax.specs.declared.kind.Kind.TheVariants as kinds
-use Rattle.rx_syntax.specs.declared.machine.Due.{Due}
-use Rattle.rx_syntax.specs.declared.machine.Due.TheVariants.{FirstLine, LineName, MoreNames, SymbolName, SymbolPattern, OutputName, MoreOutputs, Part, Rest, MarkName}
-use Rattle.rx_syntax.specs.declared.machine.State.{State}
-use Rattle.rx_syntax.specs.Machine.{at, next_state}
 use Rattle.rx_syntax.proofs.Runs.{run_passes}
-use Rattle.rx_syntax.proofs.NameTokens.{no_pattern_no_sign}
-use Rattle.rx_syntax.proofs.Used.{all_used}
 use Rattle.rx_syntax.proofs.Bits.{IsPlainName}
+use Rattle.rx_syntax.proofs.KindsOf.{run_is, brace_is, sign_is, either_kind}
+use Rattle.rx_syntax.proofs.NameTokens.{no_scan}
+use Rattle.rx_syntax.proofs.TokensKept.{Each, each_front, each_rest, statements_keep}
 use Rattle.rx_syntax.proofs.PrintedText.{AllPlain}
 
--- names of the text
+-- a token that is a name
 
-plain_word : (byte : ℕ) (rest : List ℕ) → is_letter byte ≡ true → word_kind (take (first_size (byte ∷ rest)) (byte ∷ rest)) ≡ kinds.Name
-    → IsPlainName (take (first_size (byte ∷ rest)) (byte ∷ rest))
-plain_word byte rest letter e =
-    let no_comment : (byte == 35) ≡ false = grind (arith, nat_tests) in
-    let run = prefix_len is_name_byte rest in
-    let size : first_size (byte ∷ rest) ≡ suc run = rw (no_comment, letter) (one-add run) in
-    record {
-      byte = byte;
-      rest = take run rest;
-      is = ap (λ n. take n (byte ∷ rest)) size;
-      letter = letter;
-      goes = run_passes is_name_byte rest;
-      kind = e;
-    }
+abbrev IsNoName : Kind → Type 0
+IsNoName kind = kind ≢ kinds.Name
 
-by_letter : (letter : Bool) (byte : ℕ) (rest : List ℕ) → is_letter byte ≡ letter
-    → (if letter then word_kind (take (first_size (byte ∷ rest)) (byte ∷ rest)) else (if is_place_byte byte then kinds.Pattern else sign_kind byte)) ≡ kinds.Name
-    → IsPlainName (take (first_size (byte ∷ rest)) (byte ∷ rest))
-by_letter true byte rest letter e = plain_word byte rest letter e
-by_letter false byte rest letter e = absurd (no_pattern_no_sign byte e)
+run_no_name : (run : List ℕ) → IsNoName (run_kind run)
+run_no_name run = run_is IsNoName run (λ e. cc) (λ e. cc) (λ e. cc) (λ e. cc)
 
-by_gap : (is_gap : Bool) (byte : ℕ) (rest : List ℕ)
-    → (if is_gap then None else Some (token_kind byte (take (first_size (byte ∷ rest)) (byte ∷ rest)))) ≡ Some kinds.Name
-    → IsPlainName (take (first_size (byte ∷ rest)) (byte ∷ rest))
-by_gap true byte rest e = absurd cc
-by_gap false byte rest e =
-    let kind : token_kind byte (take (first_size (byte ∷ rest)) (byte ∷ rest)) ≡ kinds.Name = cc in
-    by_letter (is_letter byte) byte rest refl kind
+sign_no_name : (version : Version) (byte : ℕ) → IsNoName (sign_kind version byte)
+sign_no_name version byte =
+    sign_is IsNoName version byte (λ e. cc) (λ e. cc) (λ e. cc) (λ e. cc) (λ e. cc) (λ e. cc) (λ e. cc) (λ e. cc) (λ e. cc)
+    (brace_is IsNoName version byte (λ e. cc) (λ e. cc) (λ e. cc) (λ e. cc) (λ e. cc) (λ e. cc))
 
-plain_front : (text : List ℕ) → first_kind text ≡ Some kinds.Name → IsPlainName (take (first_size text) text)
-plain_front [] e = absurd cc
-plain_front (byte ∷ rest) e = by_gap (is_gap_byte byte) byte rest e
-
-module _ (text : List ℕ) where
-  abbrev NamesArePlain : List Lexeme → Type 0
-  NamesArePlain [] = ⊤
-  NamesArePlain (t ∷ ts) = (t.kind ≡ kinds.Name → IsPlainName (word_of text t)) × NamesArePlain ts
-
-  tokens_plain : {place : ℕ} {ts : List Lexeme} → LexemesFrom text place ts → NamesArePlain ts
-  tokens_plain (ended h e) = subst NamesArePlain (sym e) tt
-  tokens_plain (gap h k later) = tokens_plain later
-  tokens_plain {place = place} (token kind h k e later) =
-      let size : (place + first_size (drop place text)) - place ≡ first_size (drop place text) = omega arith in
-      subst NamesArePlain (sym e) (
-        (λ is. subst (λ n. IsPlainName (take n (drop place text))) (sym size) (plain_front (drop place text) (k ∙ ap Some is))),
-        tokens_plain later,
-      )
-
-  -- The name that the use declares is plain.
-  abbrev UseIsPlain : Use → Type 0
-  UseIsPlain (line_use t) = IsPlainName (word_of text t)
-  UseIsPlain (symbol_use t) = IsPlainName (word_of text t)
-  UseIsPlain (pattern_use t) = ⊤
-  UseIsPlain (output_use t) = IsPlainName (word_of text t)
-  UseIsPlain (leaf_use t) = ⊤
-  UseIsPlain (mark_use t) = ⊤
-
-  abbrev UsesArePlain : List Use → Type 0
-  UsesArePlain [] = ⊤
-  UsesArePlain (u ∷ us) = UseIsPlain u × UsesArePlain us
-
-  plain_both : (us vs : List Use) → UsesArePlain us → UsesArePlain vs → UsesArePlain (us ++ vs)
-  plain_both [] vs h i = i
-  plain_both (u ∷ us) vs (first, h) i = (first, plain_both us vs h i)
-
-  plain_uses_front : (us vs : List Use) → UsesArePlain (us ++ vs) → UsesArePlain us
-  plain_uses_front [] vs h = tt
-  plain_uses_front (u ∷ us) vs (first, h) = (first, plain_uses_front us vs h)
-
-  plain_uses_rest : (us vs : List Use) → UsesArePlain (us ++ vs) → UsesArePlain vs
-  plain_uses_rest [] vs h = h
-  plain_uses_rest (u ∷ us) vs (first, h) = plain_uses_rest us vs h
-
-  use_plain : (due : Due) (kind : Kind) (t : Lexeme) → (kind ≡ kinds.Name → IsPlainName (word_of text t)) → UsesArePlain (use_of due kind t)
-  use_plain LineName kinds.Name t h = (h refl, tt)
-  use_plain MoreNames kinds.Name t h = (h refl, tt)
-  use_plain SymbolName kinds.Name t h = (h refl, tt)
-  use_plain SymbolPattern kinds.Pattern t h = (tt, tt)
-  use_plain OutputName kinds.Name t h = (h refl, tt)
-  use_plain MoreOutputs kinds.Name t h = (h refl, tt)
-  use_plain Part kinds.Name t h = (tt, tt)
-  use_plain Rest kinds.Name t h = (tt, tt)
-  use_plain MarkName kinds.Name t h = (tt, tt)
-  use_plain due kind t h = tt
-
-  on_plain : (state : Option State) (t : Lexeme) → (t.kind ≡ kinds.Name → IsPlainName (word_of text t)) → UsesArePlain (use_on state t)
-  on_plain None t h = tt
-  on_plain (Some state) t h = use_plain state.due t.kind t h
-
-  along_plain : (ts : List Lexeme) (state : Option State) → NamesArePlain ts → UsesArePlain (uses_along ts state)
-  along_plain [] state h = tt
-  along_plain (t ∷ ts) state (first, h) =
-      plain_both (use_on state t) (uses_along ts (next_state state t.kind)) (on_plain state t first) (along_plain ts (next_state state t.kind) h)
-
-  plain_lines_of : (ts : List Lexeme) → UsesArePlain (line_uses ts) → AllPlain (map (word_of text) ts)
-  plain_lines_of [] h = tt
-  plain_lines_of (t ∷ ts) (first, h) = (first, plain_lines_of ts h)
-
-  plain_outputs_of : (ts : List Lexeme) → UsesArePlain (output_uses ts) → AllPlain (map (word_of text) ts)
-  plain_outputs_of [] h = tt
-  plain_outputs_of (t ∷ ts) (first, h) = (first, plain_outputs_of ts h)
-
-  plain_symbols_of : (ss : List SymbolTokens) → UsesArePlain (symbol_uses ss) → AllPlain (map (λ s. s.name) (map (named_pattern text) ss))
-  plain_symbols_of [] h = tt
-  plain_symbols_of (s ∷ ss) (first, (second, h)) = (first, plain_symbols_of ss h)
-
-  -- the names that a text declares
-  pub record PlainNames (s : Syntax) : Type 0 where
-    pub lines : AllPlain (map (word_of text) s.lines)
-    pub symbols : AllPlain (map (λ s. s.name) (map (named_pattern text) s.symbols))
-    pub outputs : AllPlain (map (word_of text) s.outputs)
-
-  pub plain_names : (s : Syntax) → Says text s → PlainNames s
-  plain_names s says =
-      let uses : UsesArePlain (syntax_uses s) =
-      subst UsesArePlain (all_used says.tokens s says.specifies) (along_plain says.tokens (at FirstLine 0) (tokens_plain says.are_tokens)) in
-      let three = plain_uses_front ((line_uses s.lines ++ symbol_uses s.symbols) ++ output_uses s.outputs) (expr_uses s.exprs) uses in
-      let two = plain_uses_front (line_uses s.lines ++ symbol_uses s.symbols) (output_uses s.outputs) three in
+module _ (version : Version) where
+  plain_word : (byte : ℕ) (rest : List ℕ) → is_letter byte ≡ true → word_kind version (take (first_size version (byte ∷ rest)) (byte ∷ rest)) ≡ kinds.Name
+      → IsPlainName version (take (first_size version (byte ∷ rest)) (byte ∷ rest))
+  plain_word byte rest letter e =
+      let no_comment : (byte == 35) ≡ false = grind (arith, nat_tests) in
+      let run = prefix_len is_name_byte rest in
+      let size : first_size version (byte ∷ rest) ≡ suc run = rw (no_comment, letter) (one-add run) in
       record {
-        lines = plain_lines_of s.lines (plain_uses_front (line_uses s.lines) (symbol_uses s.symbols) two);
-        symbols = plain_symbols_of s.symbols (plain_uses_rest (line_uses s.lines) (symbol_uses s.symbols) two);
-        outputs = plain_outputs_of s.outputs (plain_uses_rest (line_uses s.lines ++ symbol_uses s.symbols) (output_uses s.outputs) three);
+        byte = byte;
+        rest = take run rest;
+        is = ap (λ n. take n (byte ∷ rest)) size;
+        letter = letter;
+        goes = run_passes is_name_byte rest;
+        kind = e;
       }
 
--- each name has its own number
+  -- the token at the front
+  abbrev front_word : ℕ → List ℕ → List ℕ
+  front_word byte rest = take (first_size version (byte ∷ rest)) (byte ∷ rest)
 
-pub number_at : (names : List (List ℕ))
-    → ((i j : ℕ) → i < j → j < length names → slice_index_or names i [] ≢ slice_index_or names j [])
-    → (k : ℕ) → k < length names → number_in names (slice_index_or names k []) ≡ k
-number_at [] differ k lt = absurd (omega (arith, lt))
-number_at (first ∷ names) differ zero lt =
-    ap (λ here. if here then 0 else suc (number_in names first)) ((bytes_eq-Decides first first).1 refl)
-number_at (first ∷ names) differ (suc k) lt =
-    let low : k < length names = omega (arith, lt) in
-    let other : bytes_eq first (slice_index_or names k []) ≡ false = not_same (bytes_eq first (slice_index_or names k [])) refl in
-    ap (λ here. if here then 0 else suc (number_in names (slice_index_or names k []))) other
-    ∙ ap suc (number_at names (λ i j ij jn. differ (suc i) (suc j) (omega (arith, ij)) (omega (arith, jn))) k low)
-  where
-    not_same : (here : Bool) → bytes_eq first (slice_index_or names k []) ≡ here → here ≡ false
-    not_same true e = absurd (differ 0 (suc k) (omega arith) lt ((bytes_eq-Decides first (slice_index_or names k [])).0 e))
-    not_same false e = refl
+  by_letter : (letter : Bool) (byte : ℕ) (rest : List ℕ) → is_letter byte ≡ letter
+      → (if letter then word_kind version (front_word byte rest)
+      else (if is_run_byte version byte then run_kind (front_word byte rest) else sign_kind version byte)) ≡ kinds.Name
+      → IsPlainName version (front_word byte rest)
+  by_letter true byte rest letter e = plain_word byte rest letter e
+  by_letter false byte rest letter e =
+      absurd (either_kind IsNoName (is_run_byte version byte) (run_kind (front_word byte rest)) (sign_kind version byte) (run_no_name (front_word byte rest))
+      (sign_no_name version byte) e)
+
+  by_gap : (blanks : Bool) (byte : ℕ) (rest : List ℕ)
+      → (if blanks then None else Some (token_kind version byte (front_word byte rest))) ≡ Some kinds.Name → IsPlainName version (front_word byte rest)
+  by_gap true byte rest e = absurd cc
+  by_gap false byte rest e =
+      let kind : token_kind version byte (front_word byte rest) ≡ kinds.Name = cc in
+      by_letter (is_letter byte) byte rest refl kind
+
+  plain_front : (text : List ℕ) → first_kind version text ≡ Some kinds.Name → IsPlainName version (take (first_size version text) text)
+  plain_front [] e = absurd cc
+  plain_front (byte ∷ rest) e = by_gap (is_gap_byte byte) byte rest e
+
+  module _ (text : List ℕ) where
+    abbrev IsPlainIfName : Lexeme → Type 0
+    IsPlainIfName t = t.kind ≡ kinds.Name → IsPlainName version (word_of text t)
+
+    abbrev IsPlain : Lexeme → Type 0
+    IsPlain t = IsPlainName version (word_of text t)
+
+    abbrev HasPlainName : SymbolTokens → Type 0
+    HasPlainName s = IsPlainName version (word_of text s.name)
+
+    tokens_plain : {place : ℕ} {ts : List Lexeme} → LexemesFrom version text place ts → Each IsPlainIfName ts
+    tokens_plain (ended h e) = subst (Each IsPlainIfName) (sym e) tt
+    tokens_plain (gap h k later) = tokens_plain later
+    tokens_plain {place = place} (token kind h k e later) =
+        let size : (place + first_size version (drop place text)) - place ≡ first_size version (drop place text) = omega arith in
+        subst (Each IsPlainIfName) (sym e) (
+          (λ is. subst (λ n. IsPlainName version (take n (drop place text))) (sym size) (plain_front (drop place text) (k ∙ ap Some is))),
+          tokens_plain later,
+        )
+
+    names_plain : (names : List Lexeme) → AreNames names → Each IsPlainIfName names → Each IsPlain names
+    names_plain [] are h = tt
+    names_plain (t ∷ ts) (is, are) (first, h) = (first is, names_plain ts are h)
+
+    statement_plain : (kind : Kind) (xs names : List Lexeme) → NamesOf kind xs names → Each IsPlainIfName xs → Each IsPlain names
+    statement_plain kind xs names is h =
+        names_plain names is.are_names (each_front IsPlainIfName names (is.last ∷ []) (subst (Each IsPlainIfName) is.tokens h).1)
+
+    symbol_plain : (xs : List Lexeme) (found : List SymbolTokens) → SymbolOf xs found → Each IsPlainIfName xs → Each HasPlainName found
+    symbol_plain xs found is h = subst (Each HasPlainName) (sym is.entry) ((subst (Each IsPlainIfName) is.tokens h).1.0 is.is_name, tt)
+
+    words_plain : (ts : List Lexeme) → Each IsPlain ts → AllPlain version (map (word_of text) ts)
+    words_plain [] h = tt
+    words_plain (t ∷ ts) (first, h) = (first, words_plain ts h)
+
+    symbols_plain : (ss : List SymbolTokens) → Each HasPlainName ss → AllPlain version (map (λ s. s.name) (map (named_pattern text) ss))
+    symbols_plain [] h = tt
+    symbols_plain (s ∷ ss) (first, h) = (first, symbols_plain ss h)
+
+-- The names that a text declares are names of the version.
+pub record PlainNames (version : Version) (text : List ℕ) (s : Syntax) : Type 0 where
+  pub lines : AllPlain version (map (word_of text) s.lines)
+  pub symbols : AllPlain version (map (λ s. s.name) (map (named_pattern text) s.symbols))
+  pub outputs : AllPlain version (map (word_of text) s.outputs)
+
+pub plain_names : (text : List ℕ) (s : Syntax) (says : Says text s) → PlainNames says.are_tokens.version text s
+plain_names text s says =
+    let v = says.are_tokens.version in
+    let P = IsPlainIfName v text in
+    let is = says.specifies in
+    let two = is.line_tokens ++ is.symbol_tokens in
+    let three = two ++ is.output_tokens in
+    let all = each_front P three is.expr_tokens (subst (Each P) is.whole (tokens_plain v text says.are_tokens.are)) in
+    let front = each_front P two is.output_tokens all in
+    record {
+      lines = words_plain v text s.lines
+          (statements_keep P (IsPlain v text) (NamesOf kinds.Line) (statement_plain v text kinds.Line) is.lines (each_front P is.line_tokens is.symbol_tokens front));
+      symbols = symbols_plain v text s.symbols
+          (statements_keep P (HasPlainName v text) SymbolOf (symbol_plain v text) is.symbols (each_rest P is.line_tokens is.symbol_tokens front));
+      outputs = words_plain v text s.outputs
+          (statements_keep P (IsPlain v text) (NamesOf kinds.Output) (statement_plain v text kinds.Output) is.outputs (each_rest P two is.output_tokens all));
+    }
+
+-- a name of version 2 is one of version 1
+
+old_keyword : (line symbol output expr : Bool) (k l : Kind) → (k ≡ kinds.Name → l ≡ kinds.Name)
+    → (if line then kinds.Line else (if symbol then kinds.Symbol else (if output then kinds.Output else (if expr then kinds.Expr else k)))) ≡ kinds.Name
+    → (if line then kinds.Line else (if symbol then kinds.Symbol else (if output then kinds.Output else (if expr then kinds.Expr else l)))) ≡ kinds.Name
+old_keyword true symbol output expr k l h e = absurd cc
+old_keyword false true output expr k l h e = absurd cc
+old_keyword false false true expr k l h e = absurd cc
+old_keyword false false false true k l h e = absurd cc
+old_keyword false false false false k l h e = h e
+
+old_name : (word : List ℕ) → IsPlainName Two word → IsPlainName One word
+old_name word h = record {
+  byte = h.byte;
+  rest = h.rest;
+  is = h.is;
+  letter = h.letter;
+  goes = h.goes;
+  kind = old_keyword (bytes_eq word (codes "line")) (bytes_eq word (codes "symbol")) (bytes_eq word (codes "output")) (bytes_eq word (codes "expr"))
+      (scan_kind Two word) (scan_kind One word) (no_scan (bytes_eq word (codes "scan")) (name_kind word)) h.kind;
+}
+
+pub old_names : (words : List (List ℕ)) → AllPlain Two words → AllPlain One words
+old_names [] h = tt
+old_names (w ∷ ws) (first, h) = (old_name w first, old_names ws h)
+
+-- a name is short

@@ -1,14 +1,19 @@
 -- The tokens of printed expressions, and what they say.
-use Rattle.std.proofs.Common.{◌≡◌, ℕ, ◌<◌, Bool, true, false, List, [], ◌∷◌, ◌++◌, length, refl, ap, ◌∙◌, arith}
-use Rattle.std.specs.Prelude.{slice_index_or}
+use Rattle.std.proofs.Common.{◌≡◌, ℕ, ◌<◌, ◌≤◌, Bool, true, false, List, [], ◌∷◌, ◌++◌, length, refl, ap, sym, ◌∙◌, subst, arith}
+use Rattle.std.specs.Prelude.{slice_index_or, ◌||◌}
+use Rattle.std.specs.Fmt.{decimal}
 use Rattle.std.proofs.lemmas.List.{append-nil}
 use Rattle.rx_text.specs.Name.{is_name_byte}
 use Rattle.rx_lang.specs.Expression as lang
 use Rattle.rx_lang.specs.Expression.{Expr}
 use Rattle.rx_syntax.specs.Grammar.{Level, unions, sequences, parts}
-use Rattle.rx_syntax.specs.Printed.{is_union, is_compound, bounds_text, enclosed, expr_text}
-use Rattle.rx_syntax.specs.declared.kind.Kind.TheVariants.{Bad, Name, Bar, Star, Plus, Question, Mark, Open, Close}
-use Rattle.rx_syntax.proofs.Bits.{Bit, blank, piece, bits_text, AllFit, bits_append, fit_append, IsPlainName, name_fits}
+use Rattle.rx_syntax.specs.Lexemes.{run_kind}
+use Rattle.rx_syntax.specs.Printed.{is_union, is_compound, has_repeat, enclosed, expr_text}
+use Rattle.rx_syntax.specs.declared.version.Version.{Version}
+use Rattle.rx_syntax.specs.declared.version.Version.TheVariants.{Two}
+use Rattle.rx_syntax.specs.declared.kind.Kind.TheVariants.{Name, Bar, Star, Plus, Question, Mark, Open, Close, OpenBrace, CloseBrace, Comma}
+use Rattle.rx_syntax.proofs.Bits.{Bit, blank, piece, bits_text, Fits, AllFit, bits_append, fit_append, blank_fits, sign_fits, IsPlainName, name_fits}
+use Rattle.rx_syntax.proofs.PrintedNumbers.{number_fits}
 use Rattle.rx_syntax.proofs.Runs.{StopsAt}
 
 -- the level of an expression that is printed without parentheses
@@ -36,9 +41,41 @@ abbrev pub enclosed_bits : Bool → List Bit → List Bit
 enclosed_bits false xs = xs
 enclosed_bits true xs = piece Open (40 ∷ []) ∷ (xs ++ (piece Close (41 ∷ []) ∷ []))
 
--- All of these are names.
-abbrev pub ArePlain : List (List ℕ) → Type 0
-ArePlain names = (k : ℕ) → k < length names → IsPlainName (slice_index_or names k [])
+-- `{`, a number, `,`, a number and `}`
+abbrev pub bounds_bits : ℕ → ℕ → List Bit
+bounds_bits m n =
+    piece OpenBrace (123 ∷ []) ∷ piece (run_kind (decimal m)) (decimal m) ∷ piece Comma (44 ∷ []) ∷ piece (run_kind (decimal n)) (decimal n)
+    ∷ piece CloseBrace (125 ∷ []) ∷ []
+
+-- All of these are names of the version.
+abbrev pub ArePlain : Version → List (List ℕ) → Type 0
+ArePlain version names = (k : ℕ) → k < length names → IsPlainName version (slice_index_or names k [])
+
+pub space_fits : (version : Version) (rest : List ℕ) → Fits version (blank 32) rest
+space_fits version rest = blank_fits version 32 rest refl refl refl refl refl
+
+pub blank_line_fits : (version : Version) (rest : List ℕ) → Fits version (blank 10) rest
+blank_line_fits version rest = blank_fits version 10 rest refl refl refl refl refl
+
+bounds_fit : (m n : ℕ) → m ≤ 255 → n ≤ 255 → (rest : List ℕ) → AllFit Two (bounds_bits m n) rest
+bounds_fit m n low high rest =
+    let last = 125 ∷ rest in
+    let most = bits_text (piece (run_kind (decimal n)) (decimal n) ∷ piece CloseBrace (125 ∷ []) ∷ []) ++ rest in
+    let least = bits_text (piece (run_kind (decimal m)) (decimal m) ∷ piece Comma (44 ∷ []) ∷ piece (run_kind (decimal n)) (decimal n) ∷ piece CloseBrace (125 ∷ []) ∷ []) ++ rest in (
+      sign_fits Two 123 least refl refl refl refl refl,
+      (
+        number_fits m low (44 ∷ most) refl,
+        (sign_fits Two 44 most refl refl refl refl refl, (number_fits n high last refl, (sign_fits Two 125 rest refl refl refl refl refl, tt))),
+      ),
+    )
+
+left_true : (a b : Bool) → a ≡ true → (a || b) ≡ true
+left_true true b e = refl
+left_true false b e = absurd cc
+
+right_true : (a b : Bool) → b ≡ true → (a || b) ≡ true
+right_true true b e = refl
+right_true false b e = e
 
 module _ (symbols outputs : List (List ℕ)) where
   abbrev pub expr_bits : Expr → List Bit
@@ -53,7 +90,7 @@ module _ (symbols outputs : List (List ℕ)) where
   expr_bits (lang.marked f y) =
       enclosed_bits (needs parts (natural f)) (expr_bits f)
       ++ (blank 32 ∷ piece Mark (33 ∷ []) ∷ piece Name (slice_index_or outputs y []) ∷ [])
-  expr_bits (lang.repeated f m n) = enclosed_bits (needs parts (natural f)) (expr_bits f) ++ (piece Bad (bounds_text m n) ∷ [])
+  expr_bits (lang.repeated f m n) = enclosed_bits (needs parts (natural f)) (expr_bits f) ++ bounds_bits m n
 
   -- the text
 
@@ -112,19 +149,9 @@ module _ (symbols outputs : List (List ℕ)) where
       let name = slice_index_or outputs y [] in
       sign_text f (blank 32 ∷ piece Mark (33 ∷ []) ∷ piece Name name ∷ []) (expr_bits_text f)
       ∙ ap (λ t. enclosed (is_compound f) (expr_text symbols outputs f) ++ (32 ∷ 33 ∷ t)) (append-nil name)
-  expr_bits_text (lang.repeated f m n) =
-      sign_text f (piece Bad (bounds_text m n) ∷ []) (expr_bits_text f)
-      ∙ ap (λ t. enclosed (is_compound f) (expr_text symbols outputs f) ++ t) (append-nil (bounds_text m n))
+  expr_bits_text (lang.repeated f m n) = sign_text f (bounds_bits m n) (expr_bits_text f)
 
-  -- the tokens are read as themselves
-
-  enclosed_fit : (b : Bool) (xs : List Bit) (rest : List ℕ) → ((r : List ℕ) → StopsAt is_name_byte r → AllFit xs r) → StopsAt is_name_byte rest
-      → AllFit (enclosed_bits b xs) rest
-  enclosed_fit false xs rest h stops = h rest stops
-  enclosed_fit true xs rest h stops =
-      ((refl, refl, omega arith), fit_append xs (piece Close (41 ∷ []) ∷ []) rest (h (41 ∷ rest) refl) ((refl, refl, omega arith), tt))
-
-  -- The numbers are those of symbols and outputs.
+  -- The numbers are those of symbols and outputs, and counted repeats have their bounds.
   abbrev pub Proper : Expr → Type 0
   Proper (lang.symbol s) = s < length symbols
   Proper (lang.sequence f g) = Proper f × Proper g
@@ -133,32 +160,56 @@ module _ (symbols outputs : List (List ℕ)) where
   Proper (lang.plus f) = Proper f
   Proper (lang.optional f) = Proper f
   Proper (lang.marked f y) = Proper f × (y < length outputs)
-  Proper (lang.repeated f m n) = ⊥
+  Proper (lang.repeated f m n) = Proper f × (m ≤ n) × (1 ≤ n) × (n ≤ 255)
 
-  module _ (plain_symbols : ArePlain symbols) (plain_outputs : ArePlain outputs) where
-    pub expr_fits : (e : Expr) → Proper e → (rest : List ℕ) → StopsAt is_name_byte rest → AllFit (expr_bits e) rest
-    expr_fits (lang.symbol s) h rest stops = (name_fits (slice_index_or symbols s []) rest (plain_symbols s h) stops, tt)
-    expr_fits (lang.sequence f g) (h, i) rest stops =
-        let ys = enclosed_bits (needs parts (natural g)) (expr_bits g) in
-        fit_append (enclosed_bits (needs sequences (natural f)) (expr_bits f)) (blank 32 ∷ ys) rest
-        (enclosed_fit (needs sequences (natural f)) (expr_bits f) (32 ∷ (bits_text ys ++ rest)) (expr_fits f h) refl)
-        ((refl, refl), enclosed_fit (needs parts (natural g)) (expr_bits g) rest (expr_fits g i) stops)
-    expr_fits (lang.union f g) (h, i) rest stops =
-        let ys = enclosed_bits (needs sequences (natural g)) (expr_bits g) in
-        fit_append (expr_bits f) (blank 32 ∷ piece Bar (124 ∷ []) ∷ blank 32 ∷ ys) rest (expr_fits f h (32 ∷ 124 ∷ 32 ∷ (bits_text ys ++ rest)) refl)
-        ((refl, refl), ((refl, refl, omega arith), ((refl, refl), enclosed_fit (needs sequences (natural g)) (expr_bits g) rest (expr_fits g i) stops)))
-    expr_fits (lang.star f) h rest stops =
-        fit_append (enclosed_bits (needs parts (natural f)) (expr_bits f)) (piece Star (42 ∷ []) ∷ []) rest
-        (enclosed_fit (needs parts (natural f)) (expr_bits f) (42 ∷ rest) (expr_fits f h) refl) ((refl, refl, omega arith), tt)
-    expr_fits (lang.plus f) h rest stops =
-        fit_append (enclosed_bits (needs parts (natural f)) (expr_bits f)) (piece Plus (43 ∷ []) ∷ []) rest
-        (enclosed_fit (needs parts (natural f)) (expr_bits f) (43 ∷ rest) (expr_fits f h) refl) ((refl, refl, omega arith), tt)
-    expr_fits (lang.optional f) h rest stops =
-        fit_append (enclosed_bits (needs parts (natural f)) (expr_bits f)) (piece Question (63 ∷ []) ∷ []) rest
-        (enclosed_fit (needs parts (natural f)) (expr_bits f) (63 ∷ rest) (expr_fits f h) refl) ((refl, refl, omega arith), tt)
-    expr_fits (lang.marked f y) (h, i) rest stops =
-        let name = slice_index_or outputs y [] in
-        fit_append (enclosed_bits (needs parts (natural f)) (expr_bits f)) (blank 32 ∷ piece Mark (33 ∷ []) ∷ piece Name name ∷ []) rest
-        (enclosed_fit (needs parts (natural f)) (expr_bits f) (32 ∷ 33 ∷ ((name ++ []) ++ rest)) (expr_fits f h) refl)
-        ((refl, refl), ((refl, refl, omega arith), (name_fits name rest (plain_outputs y i) stops, tt)))
-    expr_fits (lang.repeated f m n) h rest stops = absurd h
+  -- the tokens are read as themselves
+
+  module _ (version : Version) where
+    enclosed_fit : (b : Bool) (xs : List Bit) (rest : List ℕ) → ((r : List ℕ) → StopsAt is_name_byte r → AllFit version xs r) → StopsAt is_name_byte rest
+        → AllFit version (enclosed_bits b xs) rest
+    enclosed_fit false xs rest h stops = h rest stops
+    enclosed_fit true xs rest h stops = (
+      sign_fits version 40 _ refl refl refl refl refl,
+      fit_append version xs (piece Close (41 ∷ []) ∷ []) rest (h (41 ∷ rest) refl) (sign_fits version 41 rest refl refl refl refl refl, tt),
+    )
+
+    module _ (plain_symbols : ArePlain version symbols) (plain_outputs : ArePlain version outputs) where
+      pub expr_fits : (e : Expr) → Proper e → (has_repeat e ≡ true → version ≡ Two) → (rest : List ℕ) → StopsAt is_name_byte rest
+          → AllFit version (expr_bits e) rest
+      expr_fits (lang.symbol s) h two rest stops = (name_fits version (slice_index_or symbols s []) rest (plain_symbols s h) stops, tt)
+      expr_fits (lang.sequence f g) (h, i) two rest stops =
+          let ys = enclosed_bits (needs parts (natural g)) (expr_bits g) in
+          let left = expr_fits f h (λ e. two (left_true (has_repeat f) (has_repeat g) e)) in
+          let right = expr_fits g i (λ e. two (right_true (has_repeat f) (has_repeat g) e)) in
+          fit_append version (enclosed_bits (needs sequences (natural f)) (expr_bits f)) (blank 32 ∷ ys) rest
+          (enclosed_fit (needs sequences (natural f)) (expr_bits f) (32 ∷ (bits_text ys ++ rest)) left refl)
+          (space_fits version (bits_text ys ++ rest), enclosed_fit (needs parts (natural g)) (expr_bits g) rest right stops)
+      expr_fits (lang.union f g) (h, i) two rest stops =
+          let ys = enclosed_bits (needs sequences (natural g)) (expr_bits g) in
+          let left = expr_fits f h (λ e. two (left_true (has_repeat f) (has_repeat g) e)) in
+          let right = expr_fits g i (λ e. two (right_true (has_repeat f) (has_repeat g) e)) in
+          fit_append version (expr_bits f) (blank 32 ∷ piece Bar (124 ∷ []) ∷ blank 32 ∷ ys) rest (left (32 ∷ 124 ∷ 32 ∷ (bits_text ys ++ rest)) refl) (
+            space_fits version (124 ∷ 32 ∷ (bits_text ys ++ rest)),
+            (
+              sign_fits version 124 (32 ∷ (bits_text ys ++ rest)) refl refl refl refl refl,
+              (space_fits version (bits_text ys ++ rest), enclosed_fit (needs sequences (natural g)) (expr_bits g) rest right stops),
+            ),
+          )
+      expr_fits (lang.star f) h two rest stops =
+          fit_append version (enclosed_bits (needs parts (natural f)) (expr_bits f)) (piece Star (42 ∷ []) ∷ []) rest
+          (enclosed_fit (needs parts (natural f)) (expr_bits f) (42 ∷ rest) (expr_fits f h two) refl) (sign_fits version 42 rest refl refl refl refl refl, tt)
+      expr_fits (lang.plus f) h two rest stops =
+          fit_append version (enclosed_bits (needs parts (natural f)) (expr_bits f)) (piece Plus (43 ∷ []) ∷ []) rest
+          (enclosed_fit (needs parts (natural f)) (expr_bits f) (43 ∷ rest) (expr_fits f h two) refl) (sign_fits version 43 rest refl refl refl refl refl, tt)
+      expr_fits (lang.optional f) h two rest stops =
+          fit_append version (enclosed_bits (needs parts (natural f)) (expr_bits f)) (piece Question (63 ∷ []) ∷ []) rest
+          (enclosed_fit (needs parts (natural f)) (expr_bits f) (63 ∷ rest) (expr_fits f h two) refl) (sign_fits version 63 rest refl refl refl refl refl, tt)
+      expr_fits (lang.marked f y) (h, i) two rest stops =
+          let name = slice_index_or outputs y [] in
+          fit_append version (enclosed_bits (needs parts (natural f)) (expr_bits f)) (blank 32 ∷ piece Mark (33 ∷ []) ∷ piece Name name ∷ []) rest
+          (enclosed_fit (needs parts (natural f)) (expr_bits f) (32 ∷ 33 ∷ ((name ++ []) ++ rest)) (expr_fits f h two) refl)
+          (space_fits version (33 ∷ ((name ++ []) ++ rest)), (sign_fits version 33 ((name ++ []) ++ rest) refl refl refl refl refl, (name_fits version name rest (plain_outputs y i) stops, tt)))
+      expr_fits (lang.repeated f m n) h two rest stops =
+          fit_append version (enclosed_bits (needs parts (natural f)) (expr_bits f)) (bounds_bits m n) rest
+          (enclosed_fit (needs parts (natural f)) (expr_bits f) (bits_text (bounds_bits m n) ++ rest) (expr_fits f h.0 (λ e. two refl)) refl)
+          (subst (λ v. AllFit v (bounds_bits m n) rest) (sym (two refl)) (bounds_fit m n (omega (arith, h.1, h.3)) h.3 rest))

@@ -1,22 +1,24 @@
 -- What the tokens of a printed specification say.
-use Rattle.std.proofs.Common.{◌≡◌, ℕ, ◌+◌, List, [], ◌∷◌, ◌++◌, length, map, flat_map, codes, refl, ap, sym, ◌∙◌, arith}
-use Rattle.std.specs.Prelude.{◌≢◌}
-use Rattle.std.proofs.lemmas.List.{append_assoc, append-nil}
+use Rattle.std.proofs.Common.{◌≡◌, ℕ, ◌+◌, ◌<◌, List, [], ◌∷◌, ◌++◌, length, map, flat_map, codes, refl, ap, sym, ◌∙◌, arith}
+use Rattle.std.specs.Prelude.{◌≢◌, slice_index_or}
+use Rattle.std.proofs.lemmas.List.{append_assoc}
 use Rattle.rx_lang.specs.Expression.{Expr}
 use Rattle.rx_lang.specs.Specification.{NamedPattern, Specification}
-use Rattle.rx_syntax.specs.Lexemes.{Lexeme}
-use Rattle.rx_syntax.specs.Grammar.{Tree, SymbolTokens, NamesOf, SymbolOf, ExprOf, Statements, one, Syntax, Specifies}
-use Rattle.rx_syntax.specs.Uses.{word_of}
+use Rattle.rx_syntax.specs.Lexemes.{Lexeme, word_of}
+use Rattle.rx_syntax.specs.Grammar.{Tree, SymbolTokens, NamesOf, SymbolOf, StatementTree, ExprOf, Statements, one, Syntax, Specifies}
 use Rattle.rx_syntax.specs.Accepted.{number_in, resolve, named_pattern, Says}
-use Rattle.rx_syntax.specs.Printed.{printed}
+use Rattle.rx_syntax.specs.Uses.{undeclared}
+use Rattle.rx_syntax.specs.Printed.{needs_version_2, printed}
 use Rattle.rx_syntax.specs.declared.kind.Kind.{Kind}
 use Rattle.rx_syntax.specs.declared.kind.Kind.TheVariants as kinds
 use Rattle.rx_syntax.proofs.Bits.{Bit, bits_text, tokens_of, tokens_append}
 use Rattle.rx_syntax.proofs.PrintedTrees.{StandAt, stand_front, stand_behind, whole_reads}
-use Rattle.rx_syntax.proofs.PrintedSections.{names_bits, symbol_bits, statement_bits, names_read, symbol_read, statement_read, SayThem, statements_read}
+use Rattle.rx_syntax.proofs.PrintedSections.{names_bits, symbol_bits, Statement, statement_bits, statement_of, names_read, symbol_read, statement_read, SayThem, statements_read}
+use Rattle.rx_syntax.proofs.NewNames.{behind_lines, behind_symbols, lines_declared, symbols_declared, symbols_numbered, outputs_numbered}
+use Rattle.rx_syntax.proofs.CountedUses.{AllProper}
 use Rattle.rx_syntax.proofs.CleanBack.{clean_back}
-use Rattle.rx_syntax.proofs.WordUses.{AllProper, names_in}
-use Rattle.rx_syntax.proofs.PrintedText.{spec_bits, spec_text, spec_flat, IsPrintable, printed_lexed}
+use Rattle.rx_syntax.proofs.PrintedText.{names_in, statements_in, spec_bits, spec_flat, IsPrintable}
+use Rattle.rx_syntax.proofs.PrintedVersion.{sections_at, sections_stand, printed_tokens}
 
 names_some : (text : List ℕ) (place : ℕ) (kind : Kind) (keyword : List ℕ) (names : List (List ℕ)) (rest : List ℕ) → names ≢ []
     → StandAt text place (names_bits kind keyword names) rest
@@ -34,28 +36,39 @@ symbols_some text place [] rest some stands = absurd (some refl)
 symbols_some text place (s ∷ ss) rest some stands =
     statements_read SymbolOf symbol_bits (named_pattern text) text s ss (symbols_say text (s ∷ ss)) place rest stands
 
-module _ (spec : Specification) (h : IsPrintable spec) where
-  abbrev bits : Expr → List Bit
-  bits e = statement_bits (names_in spec) spec.outputs e
+module _ (limit : ℕ) (spec : Specification) (h : IsPrintable limit spec) where
+  abbrev bits : Statement → List Bit
+  bits s = statement_bits (names_in spec) spec.outputs s
 
-  abbrev meant : Tree → Expr
+  abbrev pub meant : Tree → Expr
   meant t = resolve (number_in (names_in spec)) (number_in spec.outputs) (printed spec) t
 
-  exprs_say : (es : List Expr) → AllProper (names_in spec) spec.outputs es → SayThem ExprOf bits meant (printed spec) es
+  number_symbols : (k : ℕ) → k < length (names_in spec) → number_in (names_in spec) (slice_index_or (names_in spec) k []) ≡ k
+  number_symbols =
+      symbols_numbered (behind_lines undeclared spec.lines) spec.symbols (ap (λ d. d.symbols) (lines_declared undeclared spec.lines)) h.symbols_fit
+
+  number_outputs : (k : ℕ) → k < length spec.outputs → number_in spec.outputs (slice_index_or spec.outputs k []) ≡ k
+  number_outputs =
+      let lines = behind_lines undeclared spec.lines in
+      outputs_numbered (behind_symbols lines spec.symbols) spec.outputs
+      (ap (λ d. d.outputs) (symbols_declared lines spec.symbols) ∙ ap (λ d. d.outputs) (lines_declared undeclared spec.lines)) h.outputs_fit
+
+  exprs_say : (ss : List Statement) → AllProper (names_in spec) spec.outputs ss → SayThem ExprOf bits (statement_of meant) (printed spec) ss
   exprs_say [] proper = tt
-  exprs_say (e ∷ es) (first, proper) = (
-    statement_read (names_in spec) spec.outputs (printed spec) e
+  exprs_say (s ∷ ss) (first, proper) = (
+    statement_read (names_in spec) spec.outputs (printed spec) meant s
         (λ place rest stands.
-        let r = whole_reads (names_in spec) spec.outputs (printed spec) h.number_symbols h.number_outputs e first place rest stands in
+        let r = whole_reads (names_in spec) spec.outputs (printed spec) number_symbols number_outputs s.expr first place rest stands in
         (r.tree, r.derives, r.means)),
-    exprs_say es proper,
+    exprs_say ss proper,
   )
 
-  exprs_some : (place : ℕ) (es : List Expr) (rest : List ℕ) → es ≢ [] → AllProper (names_in spec) spec.outputs es
-      → StandAt (printed spec) place (flat_map bits es) rest
-      → (found : List Tree) × Statements ExprOf (tokens_of place (flat_map bits es)) found × (map meant found ≡ es)
+  exprs_some : (place : ℕ) (ss : List Statement) (rest : List ℕ) → ss ≢ [] → AllProper (names_in spec) spec.outputs ss
+      → StandAt (printed spec) place (flat_map bits ss) rest
+      → (found : List StatementTree) × Statements ExprOf (tokens_of place (flat_map bits ss)) found × (map (statement_of meant) found ≡ ss)
   exprs_some place [] rest some proper stands = absurd (some refl)
-  exprs_some place (e ∷ es) rest some proper stands = statements_read ExprOf bits meant (printed spec) e es (exprs_say (e ∷ es) proper) place rest stands
+  exprs_some place (s ∷ ss) rest some proper stands =
+      statements_read ExprOf bits (statement_of meant) (printed spec) s ss (exprs_say (s ∷ ss) proper) place rest stands
 
   -- The printed text says a syntax that means the specification.
   pub record SaysBack : Type 0 where
@@ -64,38 +77,40 @@ module _ (spec : Specification) (h : IsPrintable spec) where
     pub lines : map (word_of (printed spec)) syntax.lines ≡ spec.lines
     pub symbols : map (named_pattern (printed spec)) syntax.symbols ≡ spec.symbols
     pub outputs : map (word_of (printed spec)) syntax.outputs ≡ spec.outputs
-    pub statements : map meant syntax.exprs ≡ spec.statements
+    pub statements : map (statement_of meant) syntax.exprs ≡ statements_in spec
 
   pub says_back : SaysBack
   says_back =
       let ls = names_bits kinds.Line (codes "line") spec.lines in
       let ss = flat_map symbol_bits spec.symbols in
       let os = names_bits kinds.Output (codes "output") spec.outputs in
-      let es = flat_map bits spec.statements in
-      let all : StandAt (printed spec) 0 (ls ++ (ss ++ (os ++ es))) [] = sym (spec_text spec h.old h.no_scans) ∙ sym (append-nil (bits_text (spec_bits spec))) in
-      let at1 = 0 + length (bits_text ls) in
+      let es = flat_map bits (statements_in spec) in
+      let at0 = sections_at (needs_version_2 spec) in
+      let all : StandAt (printed spec) at0 (ls ++ (ss ++ (os ++ es))) [] = sections_stand spec in
+      let at1 = at0 + length (bits_text ls) in
       let at2 = at1 + length (bits_text ss) in
       let at3 = at2 + length (bits_text os) in
-      let all1 = stand_behind (printed spec) 0 ls (ss ++ (os ++ es)) [] all in
+      let all1 = stand_behind (printed spec) at0 ls (ss ++ (os ++ es)) [] all in
       let all2 = stand_behind (printed spec) at1 ss (os ++ es) [] all1 in
       let all3 = stand_behind (printed spec) at2 os es [] all2 in
-      let l = names_some (printed spec) 0 kinds.Line (codes "line") spec.lines (bits_text (ss ++ (os ++ es)) ++ []) h.some_lines
-      (stand_front (printed spec) 0 ls (ss ++ (os ++ es)) [] all) in
+      let l = names_some (printed spec) at0 kinds.Line (codes "line") spec.lines (bits_text (ss ++ (os ++ es)) ++ []) h.some_lines
+      (stand_front (printed spec) at0 ls (ss ++ (os ++ es)) [] all) in
       let s = symbols_some (printed spec) at1 spec.symbols (bits_text (os ++ es) ++ []) h.some_symbols
       (stand_front (printed spec) at1 ss (os ++ es) [] all1) in
       let o = names_some (printed spec) at2 kinds.Output (codes "output") spec.outputs (bits_text es ++ []) h.some_outputs
       (stand_front (printed spec) at2 os es [] all2) in
-      let e = exprs_some at3 spec.statements [] h.some_statements h.proper all3 in
-      let t0 = tokens_of 0 ls in
+      let e = exprs_some at3 (statements_in spec) [] h.some_statements h.proper all3 in
+      let t0 = tokens_of at0 ls in
       let t1 = tokens_of at1 ss in
       let t2 = tokens_of at2 os in
       let t3 = tokens_of at3 es in
-      let cut : tokens_of 0 (spec_bits spec) ≡ ((t0 ++ t1) ++ t2) ++ t3 =
-      tokens_append 0 ls (ss ++ (os ++ es))
+      let tokens = tokens_of at0 (spec_bits spec) in
+      let cut : tokens ≡ ((t0 ++ t1) ++ t2) ++ t3 =
+      tokens_append at0 ls (ss ++ (os ++ es))
       ∙ ap (λ ts. t0 ++ ts) (tokens_append at1 ss (os ++ es) ∙ ap (λ ts. t1 ++ ts) (tokens_append at2 os es))
       ∙ sym (append_assoc t0 t1 (t2 ++ t3)) ∙ sym (append_assoc (t0 ++ t1) t2 t3) in
       let found : Syntax = record { lines = l.0; symbols = s.0; outputs = o.0; exprs = e.0 } in
-      let is : Specifies (tokens_of 0 (spec_bits spec)) found = record {
+      let is : Specifies tokens found = record {
         line_tokens = t0;
         symbol_tokens = t1;
         output_tokens = t2;
@@ -106,13 +121,13 @@ module _ (spec : Specification) (h : IsPrintable spec) where
         outputs = one o.1;
         exprs = e.1;
       } in
-      let flat = (spec_flat spec h 0 0).1 in
+      let flat = (spec_flat spec h.shallow at0 0).1 in
       record {
         syntax = found;
         says = record {
-          tokens = tokens_of 0 (spec_bits spec);
-          are_tokens = printed_lexed spec h;
-          clean = clean_back (tokens_of 0 (spec_bits spec)) found is (omega (arith, flat));
+          tokens = tokens;
+          are_tokens = printed_tokens limit spec h;
+          clean = clean_back tokens found is (omega (arith, flat));
           specifies = is;
         };
         lines = l.2;

@@ -1,18 +1,21 @@
 -- The sections of a printed specification, and what their tokens say.
-use Rattle.std.proofs.Common.{◌≡◌, ℕ, ◌+◌, List, [], ◌∷◌, ◌++◌, length, map, flat_map, drop, codes, refl, ap, sym, ◌∙◌, subst}
+use Rattle.std.proofs.Common.{◌≡◌, ℕ, ◌+◌, List, [], ◌∷◌, ◌++◌, length, map, flat_map, drop, codes, refl, ap, sym, ◌∙◌, subst, Bool, true, false, inl, inr}
+use Rattle.std.specs.Prelude.{if◌then◌else◌}
+use Rattle.std.specs.List.{list_all}
 use Rattle.std.proofs.lemmas.List.{append_assoc, append-nil}
 use Rattle.rx_lang.specs.declared.pattern.PatternBit.{PatternBit}
 use Rattle.rx_lang.specs.declared.pattern.PatternBit.TheVariants.{Zero, One, Any}
 use Rattle.rx_lang.specs.Expression.{Expr}
 use Rattle.rx_lang.specs.Specification.{NamedPattern}
-use Rattle.rx_syntax.specs.Tokens.{place_byte}
-use Rattle.rx_syntax.specs.Lexemes.{Lexeme}
-use Rattle.rx_syntax.specs.Grammar.{Tree, Derives, unions, AreNames, NamesOf, SymbolTokens, SymbolOf, ExprOf, Statements, one, more}
-use Rattle.rx_syntax.specs.Uses.{word_of}
-use Rattle.rx_syntax.specs.Accepted.{place_bit, number_in, resolve, named_pattern}
+use Rattle.rx_text.specs.NumberInText.{is_digit}
+use Rattle.rx_syntax.specs.Tokens.{place_byte, is_place_byte}
+use Rattle.rx_syntax.specs.Lexemes.{Lexeme, run_kind, word_of}
+use Rattle.rx_syntax.specs.Grammar.{Tree, Derives, unions, AreNames, NamesOf, SymbolTokens, SymbolOf, StatementTree, keyword_of, ExprOf, Statements, one, more}
+use Rattle.rx_syntax.specs.Accepted.{place_bit, named_pattern}
 use Rattle.rx_syntax.specs.declared.kind.Kind.{Kind}
 use Rattle.rx_syntax.specs.declared.kind.Kind.TheVariants as kinds
 use Rattle.rx_syntax.proofs.Bits.{Bit, blank, piece, bits_text, tokens_of, tokens_append, goes_on, word_read}
+use Rattle.rx_syntax.proofs.PrintedNumbers.{CountsAs}
 use Rattle.rx_syntax.proofs.PrintedExprs.{expr_bits}
 use Rattle.rx_syntax.proofs.PrintedTrees.{StandAt, stand_front, stand_behind, stand_next}
 
@@ -29,10 +32,21 @@ names_bits kind keyword names = piece kind keyword ∷ (name_bits names ++ end_b
 abbrev pub symbol_bits : NamedPattern → List Bit
 symbol_bits s =
     piece kinds.Symbol (codes "symbol") ∷ blank 32 ∷ piece kinds.Name s.name ∷ blank 32 ∷ piece kinds.Equals (61 ∷ []) ∷ blank 32
-    ∷ piece kinds.Pattern (map place_byte s.pattern) ∷ end_bits
+    ∷ piece (run_kind (map place_byte s.pattern)) (map place_byte s.pattern) ∷ end_bits
 
-abbrev pub statement_bits : List (List ℕ) → List (List ℕ) → Expr → List Bit
-statement_bits symbols outputs e = piece kinds.Expr (codes "expr") ∷ blank 32 ∷ (expr_bits symbols outputs e ++ end_bits)
+-- an expression of a statement, and whether its words may begin at any clock
+pub record Statement : Type 0 where
+  pub scans : Bool
+  pub expr : Expr
+
+-- the bytes of the keyword of a statement
+abbrev pub keyword_bytes : Bool → List ℕ
+keyword_bytes false = codes "expr"
+keyword_bytes true = codes "scan"
+
+abbrev pub statement_bits : List (List ℕ) → List (List ℕ) → Statement → List Bit
+statement_bits symbols outputs s =
+    piece (keyword_of s.scans) (keyword_bytes s.scans) ∷ blank 32 ∷ (expr_bits symbols outputs s.expr ++ end_bits)
 
 -- names
 
@@ -81,11 +95,24 @@ places_back (Zero ∷ ps) = ap (λ qs. Zero ∷ qs) (places_back ps)
 places_back (One ∷ ps) = ap (λ qs. One ∷ qs) (places_back ps)
 places_back (Any ∷ ps) = ap (λ qs. Any ∷ qs) (places_back ps)
 
+places_pass : (ps : List PatternBit) → list_all is_place_byte (map place_byte ps) ≡ true
+places_pass [] = refl
+places_pass (Zero ∷ ps) = places_pass ps
+places_pass (One ∷ ps) = places_pass ps
+places_pass (Any ∷ ps) = places_pass ps
+
+places_kind : (digits : Bool) → CountsAs kinds.Pattern (if digits then kinds.Bits else kinds.Pattern)
+places_kind true = inl refl
+places_kind false = inr refl
+
+pub pattern_kind : (ps : List PatternBit) → CountsAs kinds.Pattern (run_kind (map place_byte ps))
+pattern_kind ps = rw (places_pass ps) (places_kind (list_all is_digit (map place_byte ps)))
+
 pub symbol_read : (text : List ℕ) (s : NamedPattern) (place : ℕ) (rest : List ℕ) → StandAt text place (symbol_bits s) rest
     → (found : SymbolTokens) × SymbolOf (tokens_of place (symbol_bits s)) (found ∷ []) × (named_pattern text found ≡ s)
 symbol_read text s place rest stands =
     let bytes = map place_byte s.pattern in
-    let five : List Bit = piece kinds.Pattern bytes ∷ end_bits in
+    let five : List Bit = piece (run_kind bytes) bytes ∷ end_bits in
     let four : List Bit = piece kinds.Equals (61 ∷ []) ∷ blank 32 ∷ five in
     let three : List Bit = piece kinds.Name s.name ∷ blank 32 ∷ four in
     let at1 = (place + 6) + 1 in
@@ -100,9 +127,9 @@ symbol_read text s place rest stands =
     stand_next text (at2 + 1) 32 five rest (goes_on text at2 (61 ∷ []) (bits_text (blank 32 ∷ five) ++ rest) here2) in
     let cut3 : drop at3 text ≡ bytes ++ (bits_text end_bits ++ rest) = here3 ∙ append_assoc bytes (bits_text end_bits) rest in
     let name : Lexeme = record { kind = kinds.Name; start = at1; behind = at1 + length s.name } in
-    let pattern : Lexeme = record { kind = kinds.Pattern; start = at3; behind = at3 + length bytes } in
+    let pattern : Lexeme = record { kind = run_kind bytes; start = at3; behind = at3 + length bytes } in
     let word1 = word_read text kinds.Name at1 s.name (bits_text (blank 32 ∷ four) ++ rest) cut1 in
-    let word3 = word_read text kinds.Pattern at3 bytes (bits_text end_bits ++ rest) cut3 in
+    let word3 = word_read text (run_kind bytes) at3 bytes (bits_text end_bits ++ rest) cut3 in
     let same : map place_bit (word_of text pattern) ≡ s.pattern = ap (map place_bit) word3 ∙ places_back s.pattern in
     let behind = at3 + length bytes in (
       record { name = name; pattern = pattern },
@@ -115,7 +142,7 @@ symbol_read text s place rest stands =
         begins = refl;
         is_name = refl;
         is_equals = refl;
-        is_pattern = refl;
+        is_pattern = pattern_kind s.pattern;
         ends = refl;
         tokens = refl;
         entry = refl;
@@ -125,32 +152,40 @@ symbol_read text s place rest stands =
 
 -- expressions
 
-pub statement_read : (symbols outputs : List (List ℕ)) (text : List ℕ) (e : Expr)
-    → ((place : ℕ) (rest : List ℕ) → StandAt text place (expr_bits symbols outputs e) rest
-    → (t : Tree) × Derives unions (tokens_of place (expr_bits symbols outputs e)) t × (resolve (number_in symbols) (number_in outputs) text t ≡ e))
-    → (place : ℕ) (rest : List ℕ) → StandAt text place (statement_bits symbols outputs e) rest
-    → (found : Tree) × ExprOf (tokens_of place (statement_bits symbols outputs e)) (found ∷ [])
-    × (resolve (number_in symbols) (number_in outputs) text found ≡ e)
-statement_read symbols outputs text e reads place rest stands =
-    let xs = expr_bits symbols outputs e in
-    let at = (place + 4) + 1 in
+-- what a statement says, by what its expression means
+abbrev pub statement_of : (Tree → Expr) → StatementTree → Statement
+statement_of means s = record { scans = s.scans; expr = means s.tree }
+
+pub statement_read : (symbols outputs : List (List ℕ)) (text : List ℕ) (means : Tree → Expr) (s : Statement)
+    → ((place : ℕ) (rest : List ℕ) → StandAt text place (expr_bits symbols outputs s.expr) rest
+    → (t : Tree) × Derives unions (tokens_of place (expr_bits symbols outputs s.expr)) t × (means t ≡ s.expr))
+    → (place : ℕ) (rest : List ℕ) → StandAt text place (statement_bits symbols outputs s) rest
+    → (found : StatementTree) × ExprOf (tokens_of place (statement_bits symbols outputs s)) (found ∷ []) × (statement_of means found ≡ s)
+statement_read symbols outputs text means s reads place rest stands =
+    let xs = expr_bits symbols outputs s.expr in
+    let word = keyword_bytes s.scans in
+    let at = (place + length word) + 1 in
+    let tail : List Bit = blank 32 ∷ (xs ++ end_bits) in
     let here : StandAt text at (xs ++ end_bits) rest =
-    stand_next text (place + 4) 32 (xs ++ end_bits) rest (goes_on text place (codes "expr") (bits_text (blank 32 ∷ (xs ++ end_bits)) ++ rest) stands) in
+    stand_next text (place + length word) 32 (xs ++ end_bits) rest
+    (goes_on text place word (bits_text tail ++ rest) (stands ∙ append_assoc word (bits_text tail) rest)) in
     let r = reads at (bits_text end_bits ++ rest) (stand_front text at xs end_bits rest here) in
-    let last = at + length (bits_text xs) in (
-      r.0,
+    let last = at + length (bits_text xs) in
+    let keyword : Lexeme = record { kind = keyword_of s.scans; start = place; behind = place + length word } in (
+      record { scans = s.scans; tree = r.0 },
       record {
-        keyword = record { kind = kinds.Expr; start = place; behind = place + 4 };
+        keyword = keyword;
+        scans = s.scans;
         body = tokens_of at xs;
         tree = r.0;
         last = record { kind = kinds.Semicolon; start = last; behind = last + 1 };
         begins = refl;
         derives = r.1;
         ends = refl;
-        tokens = ap (λ ts. record { kind = kinds.Expr; start = place; behind = place + 4 } ∷ ts) (tokens_append at xs end_bits);
+        tokens = ap (λ ts. keyword ∷ ts) (tokens_append at xs end_bits);
         entry = refl;
       },
-      r.2,
+      ap (λ e. record { scans = s.scans; expr = e }) r.2,
     )
 
 -- one statement after another

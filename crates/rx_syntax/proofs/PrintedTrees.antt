@@ -1,15 +1,19 @@
 -- The tokens of a printed expression derive a tree that stands for it.
-use Rattle.std.proofs.Common.{◌≡◌, ℕ, ◌+◌, ◌<◌, true, List, [], ◌∷◌, ◌++◌, length, drop, refl, ap, ◌∙◌}
+use Rattle.std.proofs.Common.{◌≡◌, ℕ, ◌+◌, ◌<◌, ◌≤◌, true, List, [], ◌∷◌, ◌++◌, length, drop, refl, ap, ◌∙◌, arith}
 use Rattle.std.specs.Prelude.{slice_index_or}
+use Rattle.std.specs.Fmt.{decimal}
+use Rattle.std.specs.Str.Parse.{digits_value}
 use Rattle.std.proofs.lemmas.List.{append_assoc, append-nil}
 use Rattle.rx_lang.specs.Expression as lang
 use Rattle.rx_lang.specs.Expression.{Expr}
-use Rattle.rx_syntax.specs.Lexemes.{Lexeme}
-use Rattle.rx_syntax.specs.Grammar.{Tree, leaf, union, sequence, star, plus, optional, marked, Level, unions, sequences, parts, Derives, named, closed, starred, looped, optioned, noted, alone, followed, single, either}
+use Rattle.rx_syntax.specs.Lexemes.{Lexeme, run_kind}
+use Rattle.rx_syntax.specs.Uses.{number_of}
+use Rattle.rx_syntax.specs.Grammar.{Tree, leaf, union, sequence, star, plus, optional, marked, counted, Level, unions, sequences, parts, IsNumber, Derives, named, closed, starred, looped, optioned, noted, repeated, alone, followed, single, either}
 use Rattle.rx_syntax.specs.Accepted.{number_in, resolve}
-use Rattle.rx_syntax.specs.declared.kind.Kind.TheVariants.{Name, Bar, Star, Plus, Question, Mark, Open, Close}
+use Rattle.rx_syntax.specs.declared.kind.Kind.TheVariants.{Name, Bar, Star, Plus, Question, Mark, Open, Close, OpenBrace, CloseBrace, Comma}
 use Rattle.rx_syntax.proofs.Bits.{Bit, blank, piece, bits_text, tokens_of, bits_append, tokens_append, goes_on, word_read}
-use Rattle.rx_syntax.proofs.PrintedExprs.{natural, needs, enclosed_bits, expr_bits, Proper}
+use Rattle.rx_syntax.proofs.PrintedNumbers.{number_kind, number_back}
+use Rattle.rx_syntax.proofs.PrintedExprs.{natural, needs, enclosed_bits, bounds_bits, expr_bits, Proper}
 
 -- the bits stand at this place of the text, before this rest
 abbrev pub StandAt : List ℕ → ℕ → List Bit → List ℕ → Type 0
@@ -27,6 +31,55 @@ stand_behind text place xs ys rest e = goes_on text place (bits_text xs) (bits_t
 pub stand_next : (text : List ℕ) (place : ℕ) (byte : ℕ) (xs : List Bit) (rest : List ℕ) → StandAt text place (blank byte ∷ xs) rest
     → StandAt text (place + 1) xs rest
 stand_next text place byte xs rest e = goes_on text place (byte ∷ []) (bits_text xs ++ rest) e
+
+-- the tokens of the bounds of a counted repeat
+record BoundsRead (text : List ℕ) (place m n : ℕ) : Type 0 where
+  first : Lexeme
+  least : Lexeme
+  comma : Lexeme
+  most : Lexeme
+  last : Lexeme
+  are : tokens_of place (bounds_bits m n) ≡ first ∷ least ∷ comma ∷ most ∷ last ∷ []
+  opens : first.kind ≡ OpenBrace
+  is_least : IsNumber least
+  is_comma : comma.kind ≡ Comma
+  is_most : IsNumber most
+  closes : last.kind ≡ CloseBrace
+  least_is : number_of text least ≡ m
+  most_is : number_of text most ≡ n
+
+bounds_read : (text : List ℕ) (place m n : ℕ) (rest : List ℕ) → m ≤ 255 → n ≤ 255 → StandAt text place (bounds_bits m n) rest
+    → BoundsRead text place m n
+bounds_read text place m n rest low high stands =
+    let one = decimal m in
+    let other = decimal n in
+    let at1 = place + 1 in
+    let close : List Bit = piece CloseBrace (125 ∷ []) ∷ [] in
+    let four : List Bit = piece (run_kind other) other ∷ close in
+    let three : List Bit = piece Comma (44 ∷ []) ∷ four in
+    let two : List Bit = piece (run_kind one) one ∷ three in
+    let here1 : drop at1 text ≡ one ++ (bits_text three ++ rest) =
+    goes_on text place (123 ∷ []) (bits_text two ++ rest) stands ∙ append_assoc one (bits_text three) rest in
+    let at2 = at1 + length one in
+    let at3 = at2 + 1 in
+    let here3 : drop at3 text ≡ other ++ (bits_text close ++ rest) =
+    goes_on text at2 (44 ∷ []) (bits_text four ++ rest) (goes_on text at1 one (bits_text three ++ rest) here1) ∙ append_assoc other (bits_text close) rest in
+    let at4 = at3 + length other in
+    record {
+      first = record { kind = OpenBrace; start = place; behind = at1 };
+      least = record { kind = run_kind one; start = at1; behind = at2 };
+      comma = record { kind = Comma; start = at2; behind = at3 };
+      most = record { kind = run_kind other; start = at3; behind = at4 };
+      last = record { kind = CloseBrace; start = at4; behind = at4 + 1 };
+      are = refl;
+      opens = refl;
+      is_least = number_kind m low;
+      is_comma = refl;
+      is_most = number_kind n high;
+      closes = refl;
+      least_is = ap (digits_value 10) (word_read text (run_kind one) at1 one (bits_text three ++ rest) here1) ∙ number_back m low;
+      most_is = ap (digits_value 10) (word_read text (run_kind other) at3 other (bits_text close ++ rest) here3) ∙ number_back n high;
+    }
 
 module _ (symbols outputs : List (List ℕ)) (text : List ℕ)
     (number_symbols : (s : ℕ) → s < length symbols → number_in symbols (slice_index_or symbols s []) ≡ s)
@@ -147,7 +200,18 @@ module _ (symbols outputs : List (List ℕ)) (text : List ℕ)
         means = ap (λ w. lang.marked (meant r.tree) (number_in outputs w)) word ∙ ap (lang.marked (meant r.tree)) (number_outputs y i)
             ∙ ap (λ x. lang.marked x y) r.means;
       }
-  expr_reads (lang.repeated f m n) h place rest stands = absurd h
+  expr_reads (lang.repeated f m n) (h, le, some, few) place rest stands =
+      let xs = enclosed_bits (needs parts (natural f)) (expr_bits symbols outputs f) in
+      let sign = bounds_bits m n in
+      let r = level_reads parts (natural f) (expr_bits symbols outputs f) f (expr_reads f h) place (bits_text sign ++ rest) (stand_front text place xs sign rest stands) in
+      let b = bounds_read text (place + length (bits_text xs)) m n rest (omega (arith, le, few)) few (stand_behind text place xs sign rest stands) in
+      record {
+        tree = counted r.tree b.least b.most b.last;
+        derives = repeated b.first b.least b.comma b.most b.last b.opens b.is_least b.is_comma b.is_most b.closes
+            (tokens_append place xs sign ∙ ap (λ ts. tokens_of place xs ++ ts) b.are) r.derives;
+        means = ap (λ k. lang.repeated (meant r.tree) k (number_of text b.most)) b.least_is ∙ ap (λ k. lang.repeated (meant r.tree) m k) b.most_is
+            ∙ ap (λ x. lang.repeated x m n) r.means;
+      }
 
   -- as a whole statement
   pub whole_reads : (e : Expr) → Proper symbols outputs e → ReadsAnywhere unions (expr_bits symbols outputs e) e

@@ -9,9 +9,9 @@ use Rattle.std.proofs.lemmas.List.Quantifiers.{all_pairs_push}
 use Rattle.std.proofs.lemmas.List.Folds.{list_any-append, list_any_at}
 use Rattle.std.proofs.lemmas.Slice.Eq.{bytes_eq-Decides}
 use Rattle.rx_lang.specs.Specification.{NamedPattern}
-use Rattle.rx_syntax.specs.Lexemes.{Lexeme}
+use Rattle.rx_syntax.specs.Lexemes.{Lexeme, word_of}
 use Rattle.rx_syntax.specs.Grammar.{SymbolTokens, NamesOf, SymbolOf, Statements, one, more}
-use Rattle.rx_syntax.specs.Uses.{Use, line_use, symbol_use, pattern_use, output_use, line_uses, symbol_uses, output_uses, expr_uses, syntax_uses, word_of, Declared, undeclared, is_among, is_declared, use_code, behind_use, use_token, fault_or, first_use_fault}
+use Rattle.rx_syntax.specs.Uses.{Use, line_use, symbol_use, pattern_use, output_use, line_uses, symbol_uses, output_uses, expr_uses, syntax_uses, Declared, undeclared, is_among, is_declared, use_code, behind_use, use_token, fault_or, first_use_fault}
 use Rattle.rx_syntax.specs.Accepted.{place_bit, named_pattern}
 use Rattle.rx_syntax.specs.NameTables.{NameTables, AreNameTables, names_of}
 use Rattle.rx_syntax.specs.NameReading.{Declares}
@@ -162,10 +162,10 @@ pub sound : (text : List ℕ) (limit : ℕ) (tables : NameTables) → Declares t
 sound text limit tables h =
     let s = h.syntax in
     let is = h.says.specifies in
-    let exprs = expr_uses s.exprs in
+    let exprs = expr_uses text s.exprs in
     let outputs = output_uses s.outputs in
     let symbols = symbol_uses s.symbols in
-    let cut : syntax_uses s ≡ line_uses s.lines ++ (symbols ++ (outputs ++ exprs)) =
+    let cut : syntax_uses text s ≡ line_uses s.lines ++ (symbols ++ (outputs ++ exprs)) =
     append_assoc (line_uses s.lines ++ symbols) outputs exprs ∙ append_assoc (line_uses s.lines) symbols (outputs ++ exprs) in
     let fine = ap (first_use_fault text limit undeclared) (sym cut) ∙ h.no_fault in
     let none : Differ [] = nothing_differs in

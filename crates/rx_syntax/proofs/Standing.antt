@@ -4,9 +4,9 @@ use Rattle.std.specs.Prelude.{Option, Result, ◌≢◌, ◌⊎◌}
 use Rattle.rx_syntax.specs.Lexemes.{Lexeme}
 use Rattle.rx_syntax.specs.Grammar.{Syntax, Specifies}
 use Rattle.rx_syntax.specs.Refusals.{number, IsKind, Continues, Missing, open_after, Stands}
-use Rattle.rx_syntax.specs.declared.kind.Kind.TheVariants.{Bad, Long, Open}
+use Rattle.rx_syntax.specs.declared.kind.Kind.TheVariants.{Bad, Long, Open, OpenBracket}
 use Rattle.rx_syntax.specs.declared.spec_code.SpecCode.{SpecCode}
-use Rattle.rx_syntax.specs.declared.spec_code.SpecCode.TheVariants.{S1, S2, S3, S4, S5, S6, S7, S8, S9, S10, S11, S12, S13, S14}
+use Rattle.rx_syntax.specs.declared.spec_code.SpecCode.TheVariants.{S1, S2, S3, S4, S5, S6, S7, S8, S9, S10, S11, S12, S13, S14, S15}
 use Rattle.rx_syntax.specs.declared.machine.Due.{Due}
 use Rattle.rx_syntax.specs.declared.machine.Due.TheVariants.{FirstLine, NextLine, NextSymbol, NextOutput, NextExpr}
 use Rattle.rx_syntax.specs.declared.machine.State.{State}
@@ -34,6 +34,7 @@ at_least_one S11 = omega arith
 at_least_one S12 = omega arith
 at_least_one S13 = omega arith
 at_least_one S14 = omega arith
+at_least_one S15 = omega arith
 
 at_least_two : (c : SpecCode) → c ≢ S1 → 2 ≤ number c
 at_least_two S1 h = absurd (h refl)
@@ -50,22 +51,14 @@ at_least_two S11 h = omega arith
 at_least_two S12 h = omega arith
 at_least_two S13 h = omega arith
 at_least_two S14 h = omega arith
+at_least_two S15 h = omega arith
 
-at_most_deep : (c : SpecCode) → number c ≤ 14
-at_most_deep S1 = omega arith
-at_most_deep S2 = omega arith
-at_most_deep S3 = omega arith
-at_most_deep S4 = omega arith
-at_most_deep S5 = omega arith
-at_most_deep S6 = omega arith
-at_most_deep S7 = omega arith
-at_most_deep S8 = omega arith
-at_most_deep S9 = omega arith
-at_most_deep S10 = omega arith
-at_most_deep S11 = omega arith
-at_most_deep S12 = omega arith
-at_most_deep S13 = omega arith
-at_most_deep S14 = omega arith
+at_most_deep : (c : SpecCode) (before : List Lexeme) (now : Option Lexeme) → Missing c before now → number c ≤ 14
+at_most_deep S6 before now m = omega arith
+at_most_deep S7 before now m = omega arith
+at_most_deep S8 before now m = omega arith
+at_most_deep S9 before now m = omega arith
+at_most_deep c before now m = absurd m
 
 -- a missing section is a code that stands
 missing_stands : (c : SpecCode) (before : List Lexeme) (now : Option Lexeme) → Missing c before now → Stands c before now
@@ -78,7 +71,7 @@ missing_stands c before now h = h
 pub data Kinds (c : SpecCode) (before : List Lexeme) (now : Option Lexeme) : Type 0 where
   by_byte : c ≡ S1 → IsKind Bad now → Kinds c before now
   by_token : c ≡ S2 → (IsKind Long now ⊎ (Continues before now → ⊥)) → ((other : SpecCode) → Missing other before now → ⊥) → Kinds c before now
-  by_depth : c ≡ S14 → IsKind Open now → open_after 0 before ≡ 200 → Kinds c before now
+  by_depth : c ≡ S14 → IsKind Open now ⊎ IsKind OpenBracket now → open_after 0 before ≡ 200 → Kinds c before now
   by_section : Missing c before now → Kinds c before now
 
 pub kinds : (c : SpecCode) (before : List Lexeme) (now : Option Lexeme) → Stands c before now → Kinds c before now
@@ -97,9 +90,15 @@ module _ (before : List Lexeme) (t : Lexeme) (due : Due) (d : ℕ) (ran : run be
     | inl long ↦ absurd (no_long (subst (λ k. Moves due k d s.due s.depth) long (move_of due t.kind d s goes)))
     | inr stuck ↦ absurd (stuck (continues before t due d s ran goes))
   ]
-  only_deep s good none goes c (by_depth e k h) =
+  only_deep s good none goes c (by_depth e (inl k) h) =
       let flat = open_run before due d ran in
       let moved : Moves due Open d s.due s.depth = subst (λ k. Moves due k d s.due s.depth) k (move_of due t.kind d s goes) in
+      let up : s.depth ≡ suc d = (opened_move moved flat.1).0 in
+      let deep : d ≡ 200 = flat.0 ∙ h in
+      (e, up ∙ ap suc deep)
+  only_deep s good none goes c (by_depth e (inr k) h) =
+      let flat = open_run before due d ran in
+      let moved : Moves due OpenBracket d s.due s.depth = subst (λ k. Moves due k d s.due s.depth) k (move_of due t.kind d s goes) in
       let up : s.depth ≡ suc d = (opened_move moved flat.1).0 in
       let deep : d ≡ 200 = flat.0 ∙ h in
       (e, up ∙ ap suc deep)
@@ -123,7 +122,7 @@ module _ (before : List Lexeme) (t : Lexeme) (due : Due) (d : ℕ) (ran : run be
       → Kinds other before (Some t) → number c ≤ number other
   least_early c good m e other (by_byte f k) = absurd (good k)
   least_early c good m e other (by_token f h without) = absurd (without c m)
-  least_early c good m e other (by_depth f k h) = rw f (at_most_deep c)
+  least_early c good m e other (by_depth f k h) = rw f (at_most_deep c before (Some t) m)
   least_early c good m e other (by_section n) =
       let also : missing due t.kind ≡ Some other = missing_to before t due d other ran n in
       let some : ◌≡◌ {A = Option SpecCode} (Some c) (Some other) = sym e ∙ also in
@@ -172,6 +171,7 @@ bad_is_no_section S11 before now h e = h
 bad_is_no_section S12 before now h e = h
 bad_is_no_section S13 before now h e = h
 bad_is_no_section S14 before now h e = h
+bad_is_no_section S15 before now h e = h
 
 -- Where a section's first statement is due at the end, the machine says so.
 pub missing_at_end : (before : List Lexeme) (due : Due) (d : ℕ) (c : SpecCode) → run before (at FirstLine 0) ≡ at due d → Missing c before None
@@ -215,9 +215,11 @@ module _ (before : List Lexeme) (due : Due) (d : ℕ) (ran : run before (at Firs
 
   least_end : (c : SpecCode) → end_code due ≡ Some c → Kinds c before None → (other : SpecCode) → Kinds other before None → number c ≤ number other
   least_end c e k other (by_byte f h) = absurd h
-  least_end c e k other (by_depth f h g) = absurd h
+  least_end c e k other (by_depth f (inl h) g) = absurd h
+  least_end c e k other (by_depth f (inr h) g) = absurd h
   least_end c e (by_byte f h) other o = absurd h
-  least_end c e (by_depth f h g) other o = absurd h
+  least_end c e (by_depth f (inl h) g) other o = absurd h
+  least_end c e (by_depth f (inr h) g) other o = absurd h
   least_end c e (by_token f h without) other (by_token g i also) = rw (f, g) (omega arith)
   least_end c e (by_token f h without) other (by_section m) = absurd (without other m)
   least_end c e (by_section m) other (by_token g i also) = absurd (also c m)

@@ -1,31 +1,13 @@
 -- Behind all uses of a specification the tables are those that its tokens say.
-use Rattle.std.proofs.Common.{◌≡◌, ℕ, List, [], ◌∷◌, ◌++◌, map, refl, ap, sym, ◌∙◌}
-use Rattle.std.proofs.lemmas.List.{append_assoc, append-nil, map-append}
-use Rattle.rx_syntax.specs.Lexemes.{Lexeme}
-use Rattle.rx_syntax.specs.Grammar.{Tree, leaf, union, sequence, star, plus, optional, marked, SymbolTokens, Syntax}
-use Rattle.rx_syntax.specs.Uses.{Use, line_use, output_use, mark_use, tree_uses, line_uses, symbol_uses, output_uses, expr_uses, syntax_uses, word_of, behind_use}
+use Rattle.std.proofs.Common.{◌≡◌, ℕ, ◌-◌, ◌*◌, List, [], ◌∷◌, ◌++◌, map, refl, ap, sym, ◌∙◌}
+use Rattle.std.proofs.lemmas.List.{append_assoc, append-nil}
+use Rattle.rx_syntax.specs.Lexemes.{Lexeme, word_of}
+use Rattle.rx_syntax.specs.Grammar.{Tree, leaf, union, sequence, star, plus, optional, marked, counted, SymbolTokens, StatementTree, Syntax}
+use Rattle.rx_syntax.specs.Uses.{Use, line_use, output_use, mark_use, least_use, most_use, copies_use, number_of, tree_leaves, tree_uses, line_uses, symbol_uses, output_uses, expr_uses, syntax_uses}
 use Rattle.rx_syntax.specs.Accepted.{place_bit, named_pattern}
 use Rattle.rx_syntax.specs.NameTables.{NameTables, no_tables}
-use Rattle.rx_syntax.specs.NameReading.{use_by, tables_behind, said_tables}
-use Rattle.rx_syntax.specs.NameSteps.{declared_in, read_behind}
-use Rattle.rx_syntax.specs.declared.naming.Reading.{Reading}
-use Rattle.rx_syntax.specs.declared.use_kind.UseKind.{UseKind}
-use Rattle.rx_syntax.specs.declared.use_kind.UseKind.TheVariants.{Line, Symbol, Pattern, Output, Leaf, Mark}
-use Rattle.rx_syntax.proofs.LastPattern.{names_with_pattern, last_with_pattern}
-
--- what was read behind a use declares what is declared behind it
-pub declared_behind : (text : List ℕ) (read : Reading) (used : UseKind) (t : Lexeme)
-    → declared_in (read_behind text read used t) ≡ behind_use text (declared_in read) (use_by used t)
-declared_behind text read Line t = refl
-declared_behind text read Symbol t =
-    ap (λ names. record (declared_in read) { symbols = names })
-    (map-append (λ s. s.name) read.declarations.symbols (record { name = word_of text t; pattern = [] } ∷ []))
-declared_behind text read Pattern t =
-    ap (λ names. record (declared_in read) { symbols = names })
-    (names_with_pattern (map place_bit (word_of text t)) read.declarations.symbols)
-declared_behind text read Output t = refl
-declared_behind text read Leaf t = refl
-declared_behind text read Mark t = refl
+use Rattle.rx_syntax.specs.NameReading.{tables_behind, said_tables}
+use Rattle.rx_syntax.proofs.LastPattern.{last_with_pattern}
 
 module _ (text : List ℕ) where
   -- the tables behind some uses
@@ -66,26 +48,29 @@ module _ (text : List ℕ) where
       → tables_along tables (us ++ vs) ≡ tables
   along_both tables us vs first second = along_append tables us vs ∙ ap (λ n. tables_along n vs) first ∙ second
 
-  along_tree : (tables : NameTables) (e : Tree) → tables_along tables (tree_uses e) ≡ tables
+  along_tree : (tables : NameTables) (e : Tree) → tables_along tables (tree_uses text e) ≡ tables
   along_tree tables (leaf t) = refl
-  along_tree tables (union e f) = along_both tables (tree_uses e) (tree_uses f) (along_tree tables e) (along_tree tables f)
-  along_tree tables (sequence e f) = along_both tables (tree_uses e) (tree_uses f) (along_tree tables e) (along_tree tables f)
+  along_tree tables (union e f) = along_both tables (tree_uses text e) (tree_uses text f) (along_tree tables e) (along_tree tables f)
+  along_tree tables (sequence e f) = along_both tables (tree_uses text e) (tree_uses text f) (along_tree tables e) (along_tree tables f)
   along_tree tables (star e) = along_tree tables e
   along_tree tables (plus e) = along_tree tables e
   along_tree tables (optional e) = along_tree tables e
-  along_tree tables (marked e t) = along_both tables (tree_uses e) (mark_use t ∷ []) (along_tree tables e) refl
+  along_tree tables (marked e t) = along_both tables (tree_uses text e) (mark_use t ∷ []) (along_tree tables e) refl
+  along_tree tables (counted e least most c) =
+      along_both tables (tree_uses text e) (least_use least ∷ most_use least most ∷ copies_use c ((number_of text most - 1) * tree_leaves text e) ∷ [])
+      (along_tree tables e) refl
 
-  along_exprs : (tables : NameTables) (es : List Tree) → tables_along tables (expr_uses es) ≡ tables
+  along_exprs : (tables : NameTables) (es : List StatementTree) → tables_along tables (expr_uses text es) ≡ tables
   along_exprs tables [] = refl
-  along_exprs tables (e ∷ es) = along_both tables (tree_uses e) (expr_uses es) (along_tree tables e) (along_exprs tables es)
+  along_exprs tables (e ∷ es) = along_both tables (tree_uses text e.tree) (expr_uses text es) (along_tree tables e.tree) (along_exprs tables es)
 
-  pub along_syntax : (s : Syntax) → tables_along no_tables (syntax_uses s) ≡ said_tables text s
+  pub along_syntax : (s : Syntax) → tables_along no_tables (syntax_uses text s) ≡ said_tables text s
   along_syntax s =
       let two = line_uses s.lines ++ symbol_uses s.symbols in
       let three = two ++ output_uses s.outputs in
       let lines : NameTables = record no_tables { lines = map (word_of text) s.lines } in
       let symbols : NameTables = record lines { symbols = map (named_pattern text) s.symbols } in
-      along_append no_tables three (expr_uses s.exprs)
+      along_append no_tables three (expr_uses text s.exprs)
       ∙ along_exprs (tables_along no_tables three) s.exprs
       ∙ along_append no_tables two (output_uses s.outputs)
       ∙ ap (λ tables. tables_along tables (output_uses s.outputs))

@@ -1,14 +1,14 @@
 -- From each state some tokens end a specification; so the machine lives exactly as long as some specification goes on.
 use Rattle.std.proofs.Common.{◌≡◌, ℕ, zero, suc, Some, None, List, [], ◌∷◌, ◌++◌, refl, ap, sym, ◌∙◌, subst}
-use Rattle.std.specs.Prelude.{Option}
+use Rattle.std.specs.Prelude.{Option, pred}
 use Rattle.std.proofs.lemmas.List.{append_assoc}
 use Rattle.rx_syntax.specs.Lexemes.{Lexeme}
 use Rattle.rx_syntax.specs.Grammar.{Syntax, Specifies}
 use Rattle.rx_syntax.specs.Refusals.{Continues}
 use Rattle.rx_syntax.specs.declared.kind.Kind.{Kind}
-use Rattle.rx_syntax.specs.declared.kind.Kind.TheVariants.{Name, Pattern, Line, Symbol, Output, Expr, Close, Equals, Semicolon}
+use Rattle.rx_syntax.specs.declared.kind.Kind.TheVariants.{Name, Pattern, Number, Line, Symbol, Output, Expr, Close, Equals, Semicolon, CloseBrace, Comma, CloseBracket}
 use Rattle.rx_syntax.specs.declared.machine.Due.{Due}
-use Rattle.rx_syntax.specs.declared.machine.Due.TheVariants.{FirstLine, LineName, MoreNames, NextLine, SymbolName, SymbolEquals, SymbolPattern, SymbolEnd, NextSymbol, OutputName, MoreOutputs, NextOutput, Part, Rest, MarkName, NextExpr}
+use Rattle.rx_syntax.specs.declared.machine.Due.TheVariants.{FirstLine, LineName, MoreNames, NextLine, SymbolName, SymbolEquals, SymbolPattern, SymbolEnd, NextSymbol, OutputName, MoreOutputs, NextOutput, Part, Rest, MarkName, ClassName, ClassNames, Least, Between, Most, BoundsEnd, NextExpr}
 use Rattle.rx_syntax.specs.declared.machine.State.{State}
 use Rattle.rx_syntax.specs.Machine.{at, step, next_state, run}
 use Rattle.rx_syntax.proofs.Moves.{run_append}
@@ -46,6 +46,12 @@ finish NextOutput d = of_kind Expr ∷ of_kind Name ∷ of_kind Semicolon ∷ []
 finish Part d = of_kind Name ∷ closers d
 finish Rest d = closers d
 finish MarkName d = of_kind Name ∷ closers d
+finish ClassName d = of_kind Name ∷ of_kind CloseBracket ∷ closers (pred d)
+finish ClassNames d = of_kind CloseBracket ∷ closers (pred d)
+finish Least d = of_kind Number ∷ of_kind Comma ∷ of_kind Number ∷ of_kind CloseBrace ∷ closers d
+finish Between d = of_kind Comma ∷ of_kind Number ∷ of_kind CloseBrace ∷ closers d
+finish Most d = of_kind Number ∷ of_kind CloseBrace ∷ closers d
+finish BoundsEnd d = of_kind CloseBrace ∷ closers d
 finish NextExpr d = []
 
 closes : (d : ℕ) → run (closers d) (at Rest d) ≡ at NextExpr 0
@@ -68,6 +74,12 @@ finishes NextOutput d = (0, refl)
 finishes Part d = (0, closes d)
 finishes Rest d = (0, closes d)
 finishes MarkName d = (0, closes d)
+finishes ClassName d = (0, closes (pred d))
+finishes ClassNames d = (0, closes (pred d))
+finishes Least d = (0, closes d)
+finishes Between d = (0, closes d)
+finishes Most d = (0, closes d)
+finishes BoundsEnd d = (0, closes d)
 finishes NextExpr d = (d, refl)
 
 -- what the machine accepts is a specification

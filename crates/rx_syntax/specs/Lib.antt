@@ -10,6 +10,8 @@ pub mod Printed
 pub mod PrintExamples
 -- Definitions that serve private contracts alone:
 pub mod Machine
+pub mod Heads
+pub mod WordUses
 pub mod UsesRead
 pub mod NameTables
 pub mod NameReading

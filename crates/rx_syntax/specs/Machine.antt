@@ -1,10 +1,10 @@
 -- What may come next behind the tokens that were read, without a stack: what is due, and how many parentheses are open.
-use Rattle.std.specs.Prelude.{ℕ, zero, suc, nat_le, if◌then◌else◌, List, [], ◌∷◌, Option, Some, None, Result, Ok, Err}
+use Rattle.std.specs.Prelude.{ℕ, zero, suc, pred, nat_le, if◌then◌else◌, List, [], ◌∷◌, Option, Some, None, Result, Ok, Err}
 use Rattle.rx_syntax.specs.Lexemes.{Lexeme}
 use Rattle.rx_syntax.specs.declared.kind.Kind.{Kind}
-use Rattle.rx_syntax.specs.declared.kind.Kind.TheVariants.{Bad, Name, Pattern, Line, Symbol, Output, Expr, Bar, Star, Plus, Question, Mark, Open, Close, Equals, Semicolon}
+use Rattle.rx_syntax.specs.declared.kind.Kind.TheVariants.{Bad, Name, Bits, Pattern, Number, Line, Symbol, Output, Expr, Scan, Bar, Star, Plus, Question, Mark, Open, Close, Equals, Semicolon, OpenBrace, CloseBrace, Comma, OpenBracket, CloseBracket}
 use Rattle.rx_syntax.specs.declared.machine.Due.{Due}
-use Rattle.rx_syntax.specs.declared.machine.Due.TheVariants.{FirstLine, LineName, MoreNames, NextLine, SymbolName, SymbolEquals, SymbolPattern, SymbolEnd, NextSymbol, OutputName, MoreOutputs, NextOutput, Part, Rest, MarkName, NextExpr}
+use Rattle.rx_syntax.specs.declared.machine.Due.TheVariants.{FirstLine, LineName, MoreNames, NextLine, SymbolName, SymbolEquals, SymbolPattern, SymbolEnd, NextSymbol, OutputName, MoreOutputs, NextOutput, Part, Rest, MarkName, ClassName, ClassNames, Least, Between, Most, BoundsEnd, NextExpr}
 use Rattle.rx_syntax.specs.declared.machine.State.{State}
 use Rattle.rx_syntax.specs.declared.spec_code.SpecCode.{SpecCode}
 use Rattle.rx_syntax.specs.declared.spec_code.SpecCode.TheVariants.{S1, S2, S6, S7, S8, S9, S14}
@@ -23,6 +23,7 @@ step NextLine Line d = at LineName 0
 step NextLine Symbol d = at SymbolName 0
 step SymbolName Name d = at SymbolEquals 0
 step SymbolEquals Equals d = at SymbolPattern 0
+step SymbolPattern Bits d = at SymbolEnd 0
 step SymbolPattern Pattern d = at SymbolEnd 0
 step SymbolEnd Semicolon d = at NextSymbol 0
 step NextSymbol Symbol d = at SymbolName 0
@@ -32,10 +33,13 @@ step MoreOutputs Name d = at MoreOutputs 0
 step MoreOutputs Semicolon d = at NextOutput 0
 step NextOutput Output d = at OutputName 0
 step NextOutput Expr d = at Part 0
+step NextOutput Scan d = at Part 0
 step Part Name d = at Rest d
 step Part Open d = at Part (suc d)
+step Part OpenBracket d = at ClassName (suc d)
 step Rest Name d = at Rest d
 step Rest Open d = at Part (suc d)
+step Rest OpenBracket d = at ClassName (suc d)
 step Rest Close (suc d) = at Rest d
 step Rest Bar d = at Part d
 step Rest Star d = at Rest d
@@ -43,8 +47,19 @@ step Rest Plus d = at Rest d
 step Rest Question d = at Rest d
 step Rest Mark d = at MarkName d
 step Rest Semicolon zero = at NextExpr 0
+step Rest OpenBrace d = at Least d
 step MarkName Name d = at Rest d
+step ClassName Name d = at ClassNames d
+step ClassNames Name d = at ClassNames d
+step ClassNames CloseBracket d = at Rest (pred d)
+step Least Bits d = at Between d
+step Least Number d = at Between d
+step Between Comma d = at Most d
+step Most Bits d = at BoundsEnd d
+step Most Number d = at BoundsEnd d
+step BoundsEnd CloseBrace d = at Rest d
 step NextExpr Expr d = at Part 0
+step NextExpr Scan d = at Part 0
 step due kind d = None
 
 -- the code where a later section's keyword comes too early
@@ -52,9 +67,12 @@ abbrev pub missing : Due → Kind → Option SpecCode
 missing FirstLine Symbol = Some S6
 missing FirstLine Output = Some S6
 missing FirstLine Expr = Some S6
+missing FirstLine Scan = Some S6
 missing NextLine Output = Some S7
 missing NextLine Expr = Some S7
+missing NextLine Scan = Some S7
 missing NextSymbol Expr = Some S8
+missing NextSymbol Scan = Some S8
 missing due kind = None
 
 -- the code where the text ends, if it may not

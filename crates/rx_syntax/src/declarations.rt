@@ -137,22 +137,25 @@ impl<'a> Declarations<'a> {
         self.outputs.declare(word)
     }
 
-    /// The names of the lines, the symbols and the names of the outputs.
-    pub(crate) fn into_parts(
-        self,
-        alloc: Global,
-    ) -> Result<(Vec<Name>, Vec<Symbol>, Vec<Name>), NoMemory>
-        ensures lines { IfOk result (λ parts. parts.0.items ≡ self.entry.lines) }
-        ensures symbols { IfOk result (λ parts. parts.1.items ≡ self.entry.symbols) }
-        ensures outputs { IfOk result (λ parts. parts.2.items ≡ self.entry.outputs) }
+    /// The names of the lines.
+    pub(crate) fn lines(&self, alloc: Global) -> Result<Vec<Name>, NoMemory>
+        ensures { IfOk result (λ names. names.items ≡ self.now.lines) }
     {
-        let Declarations {
-            lines,
-            symbols,
-            outputs,
-            ..
-        } = self;
-        Ok((lines.to_vec(alloc)?, symbols, outputs.to_vec(alloc)?))
+        self.lines.to_vec(alloc)
+    }
+
+    /// The names of the outputs.
+    pub(crate) fn outputs(&self, alloc: Global) -> Result<Vec<Name>, NoMemory>
+        ensures { IfOk result (λ names. names.items ≡ self.now.outputs) }
+    {
+        self.outputs.to_vec(alloc)
+    }
+
+    /// The symbols.
+    pub(crate) fn into_symbols(self) -> Vec<Symbol>
+        ensures { result.items ≡ self.entry.symbols }
+    {
+        self.symbols
     }
 }
 

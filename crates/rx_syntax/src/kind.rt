@@ -10,8 +10,14 @@ pub enum Kind {
     Long,
     /// A name.
     Name,
-    /// The longest run of `0`, `1` and `-`.
+    /// A run of `0` and `1`, which is a pattern and a number.
+    Bits,
+    /// A run of `0`, `1` and `-` that is no number.
     Pattern,
+    /// A run of digits that is no pattern.
+    Number,
+    /// A run of digits and `-` that is neither a pattern nor a number.
+    Run,
     /// The keyword `line`.
     Line,
     /// The keyword `symbol`.
@@ -20,6 +26,8 @@ pub enum Kind {
     Output,
     /// The keyword `expr`.
     Expr,
+    /// The keyword `scan`, in version 2.
+    Scan,
     /// The sign `|`.
     Bar,
     /// The sign `*`.
@@ -38,4 +46,14 @@ pub enum Kind {
     Equals,
     /// The sign `;`.
     Semicolon,
+    /// The sign `{`, in version 2.
+    OpenBrace,
+    /// The sign `}`, in version 2.
+    CloseBrace,
+    /// The sign `,`, in version 2.
+    Comma,
+    /// The sign `[`, in version 2.
+    OpenBracket,
+    /// The sign `]`, in version 2.
+    CloseBracket,
 }

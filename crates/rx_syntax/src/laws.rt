@@ -1,7 +1,7 @@
 //! Laws of tokens, of first faults and of acceptance.
 
 ghost use Rattle.std.specs.Prelude.{◌≡◌, ◌⊎◌, ℕ, true, List, All};
-ghost use Rattle.rx_syntax.specs.Lexemes.{Lexeme, LexemesFrom};
+ghost use Rattle.rx_syntax.specs.Lexemes.{Lexeme, TokensOf};
 ghost use Rattle.rx_syntax.specs.Refusals.{StandsFirst, IsShaped};
 ghost use Rattle.rx_syntax.specs.Accepted.{Accepted, Refused};
 ghost use Rattle.rx_syntax.specs.Printed.{printed};
@@ -11,10 +11,10 @@ ghost use Rattle.rx_text.specs.declared.place.Place.{Place};
 ghost use Rattle.rx_lang.specs.Specification.{Specification};
 ghost use Rattle.rx_syntax.specs.declared.spec_code.SpecCode.{SpecCode};
 
-/// Every text has exactly one list of tokens with kinds and places.
+/// Every text has exactly one list of tokens with kinds and places, by the one version that it is of.
 pub fn texts_have_tokens_with_places()
-    ensures some { (text : List ℕ) → (tokens : List Lexeme) × LexemesFrom text 0 tokens }
-    ensures one { (text : List ℕ) (some others : List Lexeme) → LexemesFrom text 0 some → LexemesFrom text 0 others → some ≡ others }
+    ensures some { (text : List ℕ) → (tokens : List Lexeme) × TokensOf text tokens }
+    ensures one { (text : List ℕ) (some others : List Lexeme) → TokensOf text some → TokensOf text others → some ≡ others }
 {}
 
 /// Every text has the shape of a specification, or it has a first fault; never both, and never two first faults.

@@ -1,6 +1,7 @@
 //! The text of a specification.
 #![tactic(auto)]
 
+mod bounds;
 mod bytes;
 mod declarations;
 mod group;
@@ -19,7 +20,9 @@ pub mod read;
 mod repeats;
 pub mod shape;
 mod spec_code;
+mod tally;
 mod use_kind;
+mod version;
 
 pub use print::print_spec;
 pub use read::{ReadSpecFault, SpecFault, read_spec};

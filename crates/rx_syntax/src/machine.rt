@@ -34,7 +34,7 @@ pub enum Due {
     OutputName,
     /// A further name of an output statement, or its end.
     MoreOutputs,
-    /// A further `output`, or the first `expr`.
+    /// A further `output`, or the first `expr` or `scan`.
     NextOutput,
     /// A part of an expression.
     Part,
@@ -42,7 +42,19 @@ pub enum Due {
     Rest,
     /// The name of an output behind `!`.
     MarkName,
-    /// A further `expr`, or the end.
+    /// The first name of a class.
+    ClassName,
+    /// A further name of a class, or its end.
+    ClassNames,
+    /// The least number of a counted repeat.
+    Least,
+    /// The comma between the numbers of a counted repeat.
+    Between,
+    /// The most number of a counted repeat.
+    Most,
+    /// The end of the numbers of a counted repeat.
+    BoundsEnd,
+    /// A further `expr` or `scan`, or the end.
     NextExpr,
 }
 
@@ -67,17 +79,25 @@ impl State {
             (Due::NextLine | Due::NextSymbol, Kind::Symbol) => (Due::SymbolName, 0),
             (Due::SymbolName, Kind::Name) => (Due::SymbolEquals, 0),
             (Due::SymbolEquals, Kind::Equals) => (Due::SymbolPattern, 0),
-            (Due::SymbolPattern, Kind::Pattern) => (Due::SymbolEnd, 0),
+            (Due::SymbolPattern, Kind::Bits | Kind::Pattern) => (Due::SymbolEnd, 0),
             (Due::SymbolEnd, Kind::Semicolon) => (Due::NextSymbol, 0),
             (Due::NextSymbol | Due::NextOutput, Kind::Output) => (Due::OutputName, 0),
             (Due::OutputName | Due::MoreOutputs, Kind::Name) => (Due::MoreOutputs, 0),
             (Due::MoreOutputs, Kind::Semicolon) => (Due::NextOutput, 0),
-            (Due::NextOutput | Due::NextExpr, Kind::Expr) => (Due::Part, 0),
+            (Due::NextOutput | Due::NextExpr, Kind::Expr | Kind::Scan) => (Due::Part, 0),
             (Due::Part | Due::Rest | Due::MarkName, Kind::Name) => (Due::Rest, depth),
             (Due::Part | Due::Rest, Kind::Open) => (Due::Part, depth + 1),
             (Due::Rest, Kind::Close) if depth > 0 => (Due::Rest, depth - 1),
             (Due::Rest, Kind::Bar) => (Due::Part, depth),
             (Due::Rest, Kind::Star | Kind::Plus | Kind::Question) => (Due::Rest, depth),
+            (Due::Part | Due::Rest, Kind::OpenBracket) => (Due::ClassName, depth + 1),
+            (Due::ClassName | Due::ClassNames, Kind::Name) => (Due::ClassNames, depth),
+            (Due::ClassNames, Kind::CloseBracket) => (Due::Rest, depth.saturating_sub(1)),
+            (Due::Rest, Kind::OpenBrace) => (Due::Least, depth),
+            (Due::Least, Kind::Bits | Kind::Number) => (Due::Between, depth),
+            (Due::Between, Kind::Comma) => (Due::Most, depth),
+            (Due::Most, Kind::Bits | Kind::Number) => (Due::BoundsEnd, depth),
+            (Due::BoundsEnd, Kind::CloseBrace) => (Due::Rest, depth),
             (Due::Rest, Kind::Mark) => (Due::MarkName, depth),
             (Due::Rest, Kind::Semicolon) if depth == 0 => (Due::NextExpr, 0),
             _ => return None,
@@ -109,9 +129,11 @@ fn missing(due: Due, kind: Kind) -> Option<SpecCode>
     ensures { result ≡ missing due kind }
 {
     match (due, kind) {
-        (Due::FirstLine, Kind::Symbol | Kind::Output | Kind::Expr) => Some(SpecCode::S6),
-        (Due::NextLine, Kind::Output | Kind::Expr) => Some(SpecCode::S7),
-        (Due::NextSymbol, Kind::Expr) => Some(SpecCode::S8),
+        (Due::FirstLine, Kind::Symbol | Kind::Output | Kind::Expr | Kind::Scan) => {
+            Some(SpecCode::S6)
+        }
+        (Due::NextLine, Kind::Output | Kind::Expr | Kind::Scan) => Some(SpecCode::S7),
+        (Due::NextSymbol, Kind::Expr | Kind::Scan) => Some(SpecCode::S8),
         _ => None,
     }
 }

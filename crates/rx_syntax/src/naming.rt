@@ -1,20 +1,26 @@
 // The names and patterns of a specification, and the first fault of names and limits.
 
-ghost use Rattle.std.specs.Prelude.{◌≡◌, ◌==◌, ◌<◌, ◌≤◌, ◌^◌, ◌+◌, ℕ, List, nat_le, length, map, None, Some, IfOk, IfErr, OnOk, if◌then◌else◌};
-ghost use Rattle.rx_lang.specs.declared.pattern.PatternBit.{PatternBit};
-ghost use Rattle.rx_syntax.specs.Lexemes.{Lexeme};
-ghost use Rattle.rx_syntax.specs.Uses.{word_of, is_among, is_declared, declaration_code, use_code};
+ghost use Rattle.std.specs.Prelude.{◌≡◌, ◌==◌, ℕ, nat_le, true, length, map, None, Some, IfOk, IfErr, OnOk, if◌then◌else◌};
+ghost use Rattle.std.specs.List.{list_all};
+ghost use Rattle.std.specs.Str.Parse.{digits_value};
+ghost use Rattle.rx_text.specs.NumberInText.{is_digit};
+ghost use Rattle.rx_syntax.specs.Uses.{is_among, is_declared, bound_code, bounds_code, declaration_code};
+ghost use Rattle.rx_syntax.specs.WordUses.{leaf_word, mark_word, word_code};
+ghost use Rattle.rx_syntax.specs.UsesRead.{repeated_leaves};
 ghost use Rattle.rx_syntax.specs.Accepted.{place_bit};
 ghost use Rattle.rx_syntax.specs.Refusals.{IsShaped};
-ghost use Rattle.rx_syntax.specs.NameTables.{AreNameTables, declared_by, names_of};
-ghost use Rattle.rx_syntax.specs.NameReading.{Declares, use_by};
-ghost use Rattle.rx_syntax.specs.NameSteps.{nothing_read, declared_in, MayFollow, read_behind, IsWordOf, code_over, read_over, Refuses, IsNamesFault};
+ghost use Rattle.rx_syntax.specs.NameTables.{AreNameTables};
+ghost use Rattle.rx_syntax.specs.NameReading.{Declares};
+ghost use Rattle.rx_syntax.specs.NameSteps.{nothing_read, declared_in, MayFollow, IsBound, IsWordOf, code_at, read_at, code_over, read_over, Refuses, IsNamesFault};
 
+use crate::bounds::bound_of;
 use crate::declarations::Declarations;
 use crate::lexeme::piece_at;
 use crate::machine::{Due, State};
 use crate::spec_code::SpecCode;
+use crate::tally::Tally;
 use crate::use_kind::{UseKind, use_of};
+use crate::version::version_of;
 use rx_lang::PatternBit;
 use rx_text::NoMemory;
 use smallvec::SmallVec;
@@ -54,7 +60,7 @@ impl From<NoMemory> for NamesFault {
 #[derive(Drop)]
 struct Reading<'a> {
     declarations: Declarations<'a>,
-    leaves: u32,
+    tally: Tally,
 }
 
 fn place_bit(byte: u8) -> PatternBit
@@ -88,13 +94,35 @@ fn pattern_code(word: &[u8], lines: usize) -> Option<SpecCode>
     }
 }
 
+// The code at the first number in braces.
+fn least_code(digits: &[u8]) -> Option<SpecCode>
+    requires { list_all is_digit digits.now ≡ true }
+    ensures { result ≡ bound_code (digits_value 10 digits.now) }
+{
+    match bound_of(digits) {
+        Some(_) => None,
+        None => Some(SpecCode::S15),
+    }
+}
+
+// The code at the second number in braces, behind this one.
+fn most_code(least: u8, digits: &[u8]) -> Option<SpecCode>
+    requires { list_all is_digit digits.now ≡ true }
+    ensures { result ≡ bounds_code least (digits_value 10 digits.now) }
+{
+    match bound_of(digits) {
+        Some(most) if most >= 1 && least <= most => None,
+        _ => Some(SpecCode::S15),
+    }
+}
+
 impl<'a> Reading<'a> {
     fn new(alloc: Global) -> Reading<'a>
         ensures { result ≡ nothing_read }
     {
         Reading {
             declarations: Declarations::new(alloc),
-            leaves: 0,
+            tally: Tally::new(alloc),
         }
     }
 
@@ -119,14 +147,11 @@ impl<'a> Reading<'a> {
 
     // The code at a symbol in an expression.
     fn leaf_code(&self, word: &[u8], most_leaves: u32) -> Option<SpecCode>
-        ensures { let before = declared_in self.now in
-            result ≡ (if is_among word.now before.symbols
-            then (if nat_le most_leaves before.leaves then Some SpecCode.S13 else None)
-            else Some SpecCode.S3) }
+        ensures { result ≡ word_code most_leaves (declared_in self.now) (leaf_word word.now) }
     {
         if self.declarations.symbol(word).is_none() {
             Some(SpecCode::S3)
-        } else if self.leaves >= most_leaves {
+        } else if self.tally.leaves() >= most_leaves {
             Some(SpecCode::S13)
         } else {
             None
@@ -135,7 +160,7 @@ impl<'a> Reading<'a> {
 
     // The code at the output of a mark.
     fn mark_code(&self, word: &[u8]) -> Option<SpecCode>
-        ensures { result ≡ (if is_among word.now (declared_in self.now).outputs then None else Some SpecCode.S3) }
+        ensures { result ≡ word_code 0 (declared_in self.now) (mark_word word.now) }
     {
         if self.declarations.output(word).is_none() {
             Some(SpecCode::S3)
@@ -144,10 +169,21 @@ impl<'a> Reading<'a> {
         }
     }
 
+    // The code at the end of a counted repeat.
+    fn copies_code(&self, most_leaves: u32) -> Option<SpecCode>
+        ensures { result ≡ (if nat_le (repeated_leaves self.now.tally) most_leaves then None else Some SpecCode.S13) }
+    {
+        if self.tally.repeated_leaves() <= u64::from(most_leaves) {
+            None
+        } else {
+            Some(SpecCode::S13)
+        }
+    }
+
     // The code that stands at a word that is used so.
     fn code(&self, used: UseKind, word: &[u8], most_leaves: u32) -> Option<SpecCode>
-        ensures { (text : List ℕ) (t : Lexeme) → word_of text t ≡ word.now
-            → result ≡ use_code text most_leaves (declared_in self.now) (use_by used t) }
+        requires { IsWordOf (Some used) word.now }
+        ensures { result ≡ code_at most_leaves self.now used word.now }
     {
         let lines = self.declarations.line_count();
         let symbols = self.declarations.symbol_count();
@@ -157,16 +193,19 @@ impl<'a> Reading<'a> {
             UseKind::Symbol => { self.declaration_code(word, symbols, MOST_SYMBOLS, SpecCode::S11) }
             UseKind::Pattern => pattern_code(word, lines),
             UseKind::Output => { self.declaration_code(word, outputs, MOST_OUTPUTS, SpecCode::S12) }
-            UseKind::Leaf => self.leaf_code(word, most_leaves),
+            UseKind::Leaf | UseKind::FurtherLeaf => self.leaf_code(word, most_leaves),
             UseKind::Mark => self.mark_code(word),
+            UseKind::Open | UseKind::Close => None,
+            UseKind::Least => least_code(word),
+            UseKind::Most => most_code(self.tally.least(), word),
+            UseKind::Copies => self.copies_code(most_leaves),
         }
     }
 
     // Goes on behind a word at which no code stands.
     fn take(&mut self, alloc: Global, used: UseKind, word: &'a [u8]) -> Result<(), NoMemory>
         requires { MayFollow used word.now self.old }
-        ensures { OnOk result ((text : List ℕ) (t : Lexeme) → word_of text t ≡ word.now
-            → self.new ≡ read_behind text self.old used t) }
+        ensures { OnOk result (self.new ≡ read_at self.old used word.now) }
     {
         match used {
             UseKind::Line => self.declarations.add_line(word)?,
@@ -176,8 +215,14 @@ impl<'a> Reading<'a> {
                 self.declarations.set_pattern(pattern);
             }
             UseKind::Output => self.declarations.add_output(word)?,
-            UseKind::Leaf => self.leaves += 1,
+            UseKind::Leaf => self.tally.begin_part(),
+            UseKind::FurtherLeaf => self.tally.add_leaf(),
             UseKind::Mark => {}
+            UseKind::Open => self.tally.open_part()?,
+            UseKind::Close => self.tally.close_part(),
+            UseKind::Least => self.tally.set_least(bound_of(word).unwrap()),
+            UseKind::Most => self.tally.set_most(bound_of(word).unwrap()),
+            UseKind::Copies => self.tally.add_copies(),
         }
         Ok(())
     }
@@ -192,10 +237,9 @@ impl<'a> Reading<'a> {
         most_leaves: u32,
     ) -> Result<(), NamesFault>
         requires { IsWordOf used word.now }
-        ensures read { OnOk result ((text : List ℕ) (t : Lexeme) → word_of text t ≡ word.now
-            → (code_over text most_leaves self.old used t ≡ None) × (self.new ≡ read_over text self.old used t)) }
-        ensures fault { IfErr result (λ fault. (text : List ℕ) (t : Lexeme) → word_of text t ≡ word.now
-            → Refuses (code_over text most_leaves self.old used t) at fault) }
+        ensures none { OnOk result (code_over most_leaves self.old used word.now ≡ None) }
+        ensures read { OnOk result (self.new ≡ read_over self.old used word.now) }
+        ensures fault { IfErr result (λ fault. Refuses (code_over most_leaves self.old used word.now) at fault) }
     {
         let Some(used) = used else {
             return Ok(());
@@ -208,9 +252,9 @@ impl<'a> Reading<'a> {
 }
 
 /// Reads the names and patterns of a text that has the shape of a specification, where its expressions may have so many
-/// symbols. It is `Ok` exactly where no name, pattern or count is at fault. A fault is the first in the text among the
-/// codes `S3`, `S4`, `S5`, `S10`, `S11`, `S12` and
-/// `S13`, and the lowest of those at one place.
+/// symbols, copies under counted repeats among them. It is `Ok` exactly where no name, pattern, number or count is at
+/// fault. A fault is the first in the text among the codes `S3`, `S4`, `S5`, `S10`, `S11`, `S12`, `S13` and `S15`, and the
+/// lowest of those at one place. One entry stands for each open parenthesis, and numbers take no memory.
 pub(crate) fn read_names<'a>(
     alloc: Global,
     text: &'a [u8],
@@ -221,21 +265,22 @@ pub(crate) fn read_names<'a>(
     ensures tables { IfOk result (λ declarations. AreNameTables declarations) }
     ensures fault { IfErr result (λ fault. IsNamesFault text.now most_leaves fault) }
 {
-    let mut names = Reading::new(alloc);
-    let mut at = 0;
+    let (version, start) = version_of(text);
+    let mut reading = Reading::new(alloc);
+    let mut at = start;
     let mut state = State {
         due: Due::FirstLine,
         depth: 0,
     };
     while at < text.len() {
-        let (kind, behind) = piece_at(text, at);
+        let (kind, behind) = piece_at(version, text, at);
         let used = use_of(state.due, kind);
-        names.read_piece(alloc, used, &text[at..behind], at, most_leaves)?;
+        reading.read_piece(alloc, used, &text[at..behind], at, most_leaves)?;
         match state.over(kind) {
             Ok(next) => state = next,
             Err(code) => return Err(NamesFault::Fault { code, at }),
         }
         at = behind;
     }
-    Ok(names.declarations)
+    Ok(reading.declarations)
 }

@@ -4,8 +4,9 @@ ghost use Rattle.std.specs.Prelude.{◌≡◌, ◌<◌, ◌^◌, true, length, O
 ghost use Rattle.rx_syntax.specs.Uses.{is_among};
 ghost use Rattle.rx_syntax.specs.Accepted.{number_in};
 ghost use Rattle.rx_syntax.specs.NameTables.{names_of};
-ghost use Rattle.rx_syntax.specs.NodeBuilder.{IsKnownPiece, NodesRead, closed_in, no_nodes, piece_on, with_bar, with_group, with_leaf, with_sign, with_statement};
+ghost use Rattle.rx_syntax.specs.NodeBuilder.{AreDigits, IsKnown, IsKnownPiece, NodesRead, capped, closed_in, no_nodes, piece_on, token_on, with_bar, with_group, with_keyword, with_leaf, with_least, with_most, with_name, with_sign, with_statement};
 
+use crate::bounds::bound_of;
 use crate::declarations::Declarations;
 use crate::group::Group;
 use crate::kind::Kind;
@@ -16,12 +17,16 @@ use rx_text::NoMemory;
 use std::alloc::Global;
 use std::marker::Model;
 
-/// The nodes so far, the roots of the statements that have ended, the group that is open, and those round it, the
-/// innermost last.
+/// The nodes so far, the roots of the `expr` and `scan` statements that have ended, whether the last statement scans, the
+/// last least and most number of a counted repeat, the group that is open, and those round it, the innermost last.
 #[derive(Drop)]
 pub(crate) struct NodeBuilder {
     table: NodeTable,
-    roots: Vec<u32>,
+    exprs: Vec<u32>,
+    scans: Vec<u32>,
+    is_scan: bool,
+    least: u8,
+    most: u8,
     group: Group,
     outer: Vec<Group>,
 }
@@ -34,7 +39,11 @@ impl Model for NodeBuilder {
 
     ghost view = { λ b. record {
       nodes = b.table;
-      roots = b.roots.items;
+      exprs = b.exprs.items;
+      scans = b.scans.items;
+      is_scan = b.is_scan;
+      least = b.least;
+      most = b.most;
       group = b.group;
       outer = reverse b.outer.items;
     } };
@@ -46,7 +55,11 @@ impl NodeBuilder {
     {
         NodeBuilder {
             table: NodeTable::new(alloc),
-            roots: Vec::new(alloc),
+            exprs: Vec::new(alloc),
+            scans: Vec::new(alloc),
+            is_scan: false,
+            least: 0,
+            most: 0,
             group: Group::empty(),
             outer: Vec::new(alloc),
         }
@@ -63,7 +76,7 @@ impl NodeBuilder {
         Ok(())
     }
 
-    /// A parenthesis opens.
+    /// A parenthesis or bracket opens.
     pub(crate) fn open_group(&mut self) -> Result<(), NoMemory>
         ensures { OnOk result (self.new ≡ with_group self.old) }
     {
@@ -72,7 +85,7 @@ impl NodeBuilder {
         Ok(())
     }
 
-    /// A parenthesis closes: the group is a further part of the one round it.
+    /// A parenthesis or bracket closes: the group is a further part of the one round it.
     pub(crate) fn close_group(&mut self) -> Result<(), NoMemory>
         ensures { OnOk result (self.new ≡ closed_in self.old.outer self.old) }
     {
@@ -109,15 +122,63 @@ impl NodeBuilder {
         Ok(())
     }
 
+    /// The symbol with this number is a further name of a class.
+    pub(crate) fn add_name(&mut self, symbol: u8) -> Result<(), NoMemory>
+        ensures { OnOk result (self.new ≡ with_name symbol self.old) }
+    {
+        self.add_bar()?;
+        self.add_leaf(symbol)
+    }
+
     /// A statement ends.
     pub(crate) fn end_statement(&mut self) -> Result<(), NoMemory>
         ensures { OnOk result (self.new ≡ with_statement self.old) }
     {
         let root = self.group.whole(&mut self.table)?;
         if let Some(root) = root {
-            self.roots.push(root)?;
+            if self.is_scan {
+                self.scans.push(root)?;
+            } else {
+                self.exprs.push(root)?;
+            }
         }
         self.group = Group::empty();
+        Ok(())
+    }
+
+    // Reads a token of this kind with these bytes, before which this was due.
+    fn read_token(
+        &mut self,
+        declarations: &Declarations<'_>,
+        due: Due,
+        kind: Kind,
+        word: &[u8],
+    ) -> Result<(), NoMemory>
+        requires { IsKnown declarations.now due kind word.now }
+        ensures { OnOk result (self.new ≡ token_on declarations.now due kind word.now self.old) }
+    {
+        match (due, kind) {
+            (Due::NextOutput | Due::NextExpr, Kind::Expr) => self.is_scan = false,
+            (Due::NextOutput | Due::NextExpr, Kind::Scan) => self.is_scan = true,
+            (Due::Part | Due::Rest | Due::ClassName, Kind::Name) => {
+                self.add_leaf(symbol(declarations, word))?
+            }
+            (Due::ClassNames, Kind::Name) => self.add_name(symbol(declarations, word))?,
+            (Due::Part | Due::Rest, Kind::Open | Kind::OpenBracket) => self.open_group()?,
+            (Due::Rest, Kind::Close) | (Due::ClassNames, Kind::CloseBracket) => self.close_group()?,
+            (Due::Rest, Kind::Bar) => self.add_bar()?,
+            (Due::Rest, Kind::Star) => self.add_sign(Sign::Star)?,
+            (Due::Rest, Kind::Plus) => self.add_sign(Sign::Plus)?,
+            (Due::Rest, Kind::Question) => self.add_sign(Sign::Optional)?,
+            (Due::MarkName, Kind::Name) => self.add_sign(Sign::Marked(output(declarations, word)))?,
+            (Due::Least, Kind::Bits | Kind::Number) => self.least = capped(word),
+            (Due::Most, Kind::Bits | Kind::Number) => self.most = capped(word),
+            (Due::BoundsEnd, Kind::CloseBrace) => {
+                self.add_sign(Sign::Counted(self.least, self.most))?
+            }
+            (Due::Rest, Kind::Semicolon) => self.end_statement()?,
+            _ => {}
+        }
         Ok(())
     }
 
@@ -132,31 +193,29 @@ impl NodeBuilder {
         requires { IsKnownPiece declarations.now due kind word.now }
         ensures { OnOk result (self.new ≡ piece_on declarations.now due kind word.now self.old) }
     {
-        let Some(kind) = kind else {
-            return Ok(());
-        };
-        match (due, kind) {
-            (Due::Part | Due::Rest, Kind::Name) => self.add_leaf(symbol(declarations, word)),
-            (Due::Part | Due::Rest, Kind::Open) => self.open_group(),
-            (Due::Rest, Kind::Close) => self.close_group(),
-            (Due::Rest, Kind::Bar) => self.add_bar(),
-            (Due::Rest, Kind::Star) => self.add_sign(Sign::Star),
-            (Due::Rest, Kind::Plus) => self.add_sign(Sign::Plus),
-            (Due::Rest, Kind::Question) => self.add_sign(Sign::Optional),
-            (Due::Rest, Kind::Semicolon) => self.end_statement(),
-            (Due::MarkName, Kind::Name) => self.add_sign(Sign::Marked(output(declarations, word))),
-            _ => Ok(()),
+        match kind {
+            None => Ok(()),
+            Some(kind) => self.read_token(declarations, due, kind, word),
         }
     }
 
-    /// The nodes and the roots of the statements.
-    pub(crate) fn into_parts(self) -> (Vec<ExprNode>, Vec<u32>)
+    /// The nodes, and the roots of the `expr` and `scan` statements.
+    pub(crate) fn into_parts(self) -> (Vec<ExprNode>, Vec<u32>, Vec<u32>)
         ensures nodes { result.0.items ≡ self.nodes }
-        ensures roots { result.1.items ≡ self.roots }
+        ensures exprs { result.1.items ≡ self.exprs }
+        ensures scans { result.2.items ≡ self.scans }
         ensures few { length result.0.items < 2 ^ 32 }
     {
-        (self.table.into_nodes(), self.roots)
+        (self.table.into_nodes(), self.exprs, self.scans)
     }
+}
+
+// The number that these digits write, or 255 where that is less.
+fn capped(digits: &[u8]) -> u8
+    requires { AreDigits digits.now }
+    ensures { result ≡ capped digits.now }
+{
+    bound_of(digits).unwrap_or(255)
 }
 
 // The number of a declared symbol.

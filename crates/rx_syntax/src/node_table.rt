@@ -26,13 +26,14 @@ impl Join {
     }
 }
 
-/// A postfix sign. A mark is one, with the number of its output.
+/// A postfix sign. A mark is one, with the number of its output, and a counted repeat, with its least and most number.
 #[derive(Clone, Copy)]
 pub(crate) enum Sign {
     Star,
     Plus,
     Optional,
     Marked(u8),
+    Counted(u8, u8),
 }
 
 impl Sign {
@@ -44,6 +45,7 @@ impl Sign {
             Sign::Plus => ExprNode::Plus(inner),
             Sign::Optional => ExprNode::Opt(inner),
             Sign::Marked(output) => ExprNode::Mark(inner, output),
+            Sign::Counted(least, most) => ExprNode::Repeat(inner, least, most),
         }
     }
 }

@@ -67,9 +67,11 @@ pub fn read_spec(alloc: Global, text: &[u8], most_leaves: u32) -> Result<Spec, R
         Ok(declarations) => declarations,
         Err(fault) => return Err(names_fault(text, fault)),
     };
-    let (nodes, exprs) = read_nodes(alloc, text, &declarations)?;
-    let (lines, symbols, outputs) = declarations.into_parts(alloc)?;
-    Ok(Spec::new(lines, symbols, outputs, nodes, exprs, Vec::new(alloc)))
+    let (nodes, exprs, scans) = read_nodes(alloc, text, &declarations)?;
+    let lines = declarations.lines(alloc)?;
+    let outputs = declarations.outputs(alloc)?;
+    let symbols = declarations.into_symbols();
+    Ok(Spec::new(lines, symbols, outputs, nodes, exprs, scans))
 }
 
 // The fault of names and limits in this text, by line and column.

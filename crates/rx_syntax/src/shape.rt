@@ -8,6 +8,7 @@ use crate::kind::Kind;
 use crate::lexeme::piece_at;
 use crate::machine::{Due, State, end_code};
 use crate::spec_code::SpecCode;
+use crate::version::version_of;
 
 /// A code that stands in a text, and the byte at which it stands.
 #[derive(Clone, Copy, Debug, PartialEq, Eq)]
@@ -36,13 +37,14 @@ pub fn check_shape(text: &[u8]) -> Result<(), ShapeFault>
     ensures shaped { OnOk result (IsShaped text.now) }
     ensures fault { IfErr result (λ fault. StandsFirst text.now fault.code fault.at) }
 {
-    let mut at = 0;
+    let (version, start) = version_of(text);
+    let mut at = start;
     let mut state = State {
         due: Due::FirstLine,
         depth: 0,
     };
     while at < text.len() {
-        let (kind, behind) = piece_at(text, at);
+        let (kind, behind) = piece_at(version, text, at);
         match state.over(kind) {
             Ok(next) => state = next,
             Err(code) => return Err(ShapeFault { code, at }),

@@ -19,7 +19,7 @@ pub enum SpecCode {
     S7,
     /// NoOutputs: a later section or the end comes where the first `output` is due.
     S8,
-    /// NoExpression: the end comes where the first `expr` is due.
+    /// NoExpression: the end comes where the first `expr` is due, or in version 2 the first `expr` or `scan`.
     S9,
     /// TooManyLines: more than 16 lines.
     S10,
@@ -27,8 +27,10 @@ pub enum SpecCode {
     S11,
     /// TooManyOutputs: more than 16 outputs.
     S12,
-    /// TooManyLeaves: more symbols in all expressions than the command allows.
+    /// TooManyLeaves: more symbols in all expressions than the command allows, copies counted.
     S13,
     /// TooDeep: more than 200 parentheses are open at once.
     S14,
+    /// BadBounds: a number in braces is above 255, or the second is 0 or less than the first.
+    S15,
 }

@@ -8,5 +8,5 @@ returns-then-byte-eq35-clause-within c = search (rules, prefix_len-le-length)
 pub returns-then-starts_name-clause-within : goal.returns-then-starts_name-clause-within
 returns-then-starts_name-clause-within c = search (rules, prefix_len-le-length)
 
-pub returns-then-is_place_byte-clause-within : goal.returns-then-is_place_byte-clause-within
-returns-then-is_place_byte-clause-within c = search (rules, prefix_len-le-length)
+pub returns-then-is_run_byte-clause-within : goal.returns-then-is_run_byte-clause-within
+returns-then-is_run_byte-clause-within c = search (rules, prefix_len-le-length)
