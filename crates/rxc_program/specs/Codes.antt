@@ -7,7 +7,7 @@ use Rattle.rx_syntax.specs.declared.spec_code.SpecCode.TheVariants as spec
 use Rattle.switch_sim.specs.declared.trace_code.TraceCode.{TraceCode}
 use Rattle.switch_sim.specs.declared.trace_code.TraceCode.TheVariants as trace
 use Rattle.rxc_program.specs.declared.status.Code.{Code}
-use Rattle.rxc_program.specs.declared.status.Code.TheVariants.{S1, S2, S3, S4, S5, S6, S7, S8, S9, S10, S11, S12, S13, S14, N1, N2, N3, N4, N5, N6, V1, V2, V3, V4, I1}
+use Rattle.rxc_program.specs.declared.status.Code.TheVariants.{S1, S2, S3, S4, S5, S6, S7, S8, S9, S10, S11, S12, S13, S14, S15, N1, N2, N3, N4, N5, N6, V1, V2, V3, V4, I1}
 
 -- the code of a fault in a specification
 abbrev pub spec_code : SpecCode → Code
@@ -25,6 +25,7 @@ spec_code spec.S11 = S11
 spec_code spec.S12 = S12
 spec_code spec.S13 = S13
 spec_code spec.S14 = S14
+spec_code spec.S15 = S15
 
 -- the code of a fault in a network text
 abbrev pub net_code : NetCode → Code
@@ -58,6 +59,7 @@ code_text S11 = codes "S11 TooManySymbols"
 code_text S12 = codes "S12 TooManyOutputs"
 code_text S13 = codes "S13 TooManyLeaves"
 code_text S14 = codes "S14 TooDeep"
+code_text S15 = codes "S15 BadBounds"
 code_text N1 = codes "N1 Syntax"
 code_text N2 = codes "N2 NetOutOfRange"
 code_text N3 = codes "N3 DoublePad"

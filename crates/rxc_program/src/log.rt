@@ -104,6 +104,7 @@ fn code_text(code: Code) -> &'static [u8]
         Code::S12 => b"S12 TooManyOutputs",
         Code::S13 => b"S13 TooManyLeaves",
         Code::S14 => b"S14 TooDeep",
+        Code::S15 => b"S15 BadBounds",
         Code::N1 => b"N1 Syntax",
         Code::N2 => b"N2 NetOutOfRange",
         Code::N3 => b"N3 DoublePad",

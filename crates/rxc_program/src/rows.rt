@@ -276,6 +276,43 @@ pub(crate) const ROWS: &[Row] = &[
     },
     Row {
         words: &[b"net"],
+        input: Input::Text(
+            b"version 2;\nline x;\nsymbol a = 1;\noutput z;\nexpr a{64,64}{65,65} !z;\n",
+        ),
+        end: End::Refused(Code::S13, 5, 20),
+        output: NOTHING,
+        log: b"rxc: S13 TooManyLeaves at 5:20\n",
+    },
+    Row {
+        words: &[b"net"],
+        input: Input::Text(b"version 2;\nline x;\nsymbol a = 1;\noutput z;\nexpr a{3,2} !z;\n"),
+        end: End::Refused(Code::S15, 5, 10),
+        output: NOTHING,
+        log: b"rxc: S15 BadBounds at 5:10\n",
+    },
+    Row {
+        words: &[b"net"],
+        input: Input::Text(b"line x;\nsymbol a = 1;\noutput z;\nexpr [a] !z;\n"),
+        end: End::Refused(Code::S1, 4, 6),
+        output: NOTHING,
+        log: b"rxc: S1 BadByte at 4:6\n",
+    },
+    Row {
+        words: &[b"net"],
+        input: Input::Text(b"version 2;\nline x;\nsymbol a = 1;\noutput z;\nexpr [a] !z;\n"),
+        end: End::Done,
+        output: NETWORK,
+        log: b"",
+    },
+    Row {
+        words: &[b"net"],
+        input: Input::Text(b"line x;\nsymbol a = 1;\noutput z;\nscan a !z;\n"),
+        end: End::Refused(Code::S2, 4, 1),
+        output: NOTHING,
+        log: b"rxc: S2 BadToken at 4:1\n",
+    },
+    Row {
+        words: &[b"net"],
         input: Input::Repeated(SYMBOLS, b" a", 4096, b" !z;\n"),
         end: End::Done,
         output: NETWORK,

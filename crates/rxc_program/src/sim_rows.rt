@@ -65,6 +65,36 @@ pub(crate) const SIM_ROWS: &[Row] = &[
     Row {
         words: &[b"sim"],
         input: Input::Compiled(
+            b"1\n1\n1\n1\nchip\n",
+            b"version 2;\nline x;\nsymbol a = 1;\noutput z;\nexpr a{2,3} !z;\n",
+        ),
+        end: End::Done,
+        output: Output::Is(b"0 0\n1 0\n2 1\n3 1\n4 0\n"),
+        log: b"",
+    },
+    Row {
+        words: &[b"sim"],
+        input: Input::Compiled(
+            b"1\n0\n1\n0\nchip\n",
+            b"version 2;\nline x;\nsymbol a = 1;\nsymbol b = 0;\noutput z;\nscan a b !z;\n",
+        ),
+        end: End::Done,
+        output: Output::Is(b"0 0\n1 0\n2 1\n3 0\n4 1\n"),
+        log: b"",
+    },
+    Row {
+        words: &[b"sim"],
+        input: Input::Compiled(
+            b"0\nchip\n",
+            b"version 2;\nline x;\nsymbol a = 1;\nsymbol b = 0;\noutput z;\nscan a? !z;\n",
+        ),
+        end: End::Done,
+        output: Output::Is(b"0 1\n1 1\n"),
+        log: b"",
+    },
+    Row {
+        words: &[b"sim"],
+        input: Input::Compiled(
             b"11\n11\nchip\n",
             b"line x y;\nsymbol a = 1-;\nsymbol b = -1;\noutput z v;\nexpr a b !z;\nexpr b a !v;\n",
         ),

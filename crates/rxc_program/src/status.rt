@@ -28,7 +28,7 @@ pub enum Code {
     S7,
     /// NoOutputs: a later section or the end comes where the first `output` is due.
     S8,
-    /// NoExpression: the end comes where the first `expr` is due.
+    /// NoExpression: the end comes where the first `expr`, or in version 2 the first `expr` or `scan`, is due.
     S9,
     /// TooManyLines: more than 16 lines.
     S10,
@@ -38,8 +38,10 @@ pub enum Code {
     S12,
     /// TooManyLeaves: more symbols in all expressions than the command allows.
     S13,
-    /// TooDeep: more than 200 parentheses are open at once.
+    /// TooDeep: more than 200 parentheses and brackets are open at once.
     S14,
+    /// BadBounds: a number in braces is above 255, or the second is 0 or less than the first.
+    S15,
     /// Syntax: no network text goes on with this byte, or ends here.
     N1,
     /// NetOutOfRange: a net is not below the number of nets.
@@ -84,6 +86,7 @@ impl Code {
             SpecCode::S12 => Code::S12,
             SpecCode::S13 => Code::S13,
             SpecCode::S14 => Code::S14,
+            SpecCode::S15 => Code::S15,
         }
     }
 
