@@ -61,6 +61,38 @@ const SHOWN: &[(&str, &str, &str)] = &[
         "1 1 1 1",
         "0 0 0 1 0",
     ),
+    // Counted repeats.
+    (
+        "version 2; line x; symbol a = 1; output z; expr a{2,3} !z;",
+        "1 1 1 1",
+        "0 0 1 1 0",
+    ),
+    (
+        "version 2; line x; symbol a = 1; output z; expr (a !z){0,2} a{2,2};",
+        "1 1 1",
+        "0 1 1 0",
+    ),
+    (
+        "version 2; line x; symbol a = 1; symbol b = 0; output z; expr ([a b]{2,2}){0,1} !z;",
+        "1 0 1",
+        "1 0 1 0",
+    ),
+    // Words that begin at any clock.
+    (
+        "version 2; line x; symbol a = 1; symbol b = 0; output z; scan a b !z;",
+        "1 0 1 0",
+        "0 0 1 0 1",
+    ),
+    (
+        "version 2; line x; symbol a = 1; symbol b = 0; output z; scan a? !z;",
+        "0",
+        "1 1",
+    ),
+    (
+        "version 2; line x; symbol a = 1; symbol b = 0; output y z; scan a? !z; expr b !y;",
+        "0 0",
+        "01 11 01",
+    ),
 ];
 
 /// An expression over `line x; symbol a = 1; symbol b = 0; output z;`, the vectors of a word, and whether each front is spelled.

@@ -10,7 +10,7 @@ use Rattle.rx_syntax.specs.Accepted.{Accepted}
 use Rattle.rx_syntax.specs.declared.version.Version.{Version}
 use Rattle.rx_syntax.proofs.Bits.{IsPlainName}
 use Rattle.rx_syntax.proofs.NameTokens.{short_word}
-use Rattle.rx_syntax.proofs.Printable.{plain_names}
+use Rattle.rx_syntax.proofs.PlainNames.{plain_names}
 use Rattle.rx_syntax.proofs.PrintedText.{AllPlain}
 
 plain_is_name : (version : Version) (word : List ℕ) → IsPlainName version word → is_name word ≡ true

@@ -8,11 +8,11 @@ use Rattle.rx_syntax.proofs.PrintedSections.{Statement, statement_of}
 use Rattle.rx_syntax.proofs.CountedUses.{size, EachExpr, total}
 use Rattle.rx_syntax.proofs.PrintedText.{in_kind}
 
-each_expr_both : (Q : Expr → Type 0) (xs ys : List Statement) → EachExpr Q xs → EachExpr Q ys → EachExpr Q (xs ++ ys)
+pub each_expr_both : (Q : Expr → Type 0) (xs ys : List Statement) → EachExpr Q xs → EachExpr Q ys → EachExpr Q (xs ++ ys)
 each_expr_both Q [] ys h i = i
 each_expr_both Q (x ∷ xs) ys (first, h) i = (first, each_expr_both Q xs ys h i)
 
-total_both : (xs ys : List Statement) → total (xs ++ ys) ≡ total xs + total ys
+pub total_both : (xs ys : List Statement) → total (xs ++ ys) ≡ total xs + total ys
 total_both [] ys = omega arith
 total_both (x ∷ xs) ys = omega (arith, total_both xs ys)
 

@@ -38,10 +38,12 @@ pub mod PrintedReads
 pub mod KindsOf
 pub mod TokensKept
 pub mod OldTexts
-pub mod Printable
+pub mod PlainNames
 pub mod KeptStatements
 pub mod UsesInOrder
 pub mod ReadBack
+pub mod DifferentNames
+pub mod PrintedTables
 pub mod BuiltSyntax
 pub mod OneSpecification
 pub mod Used

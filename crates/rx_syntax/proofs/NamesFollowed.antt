@@ -6,7 +6,7 @@ use Rattle.rx_syntax.specs.Lexemes.{Lexeme, first_size, first_kind, LexemesFrom,
 use Rattle.rx_syntax.specs.Grammar.{Specifies}
 use Rattle.rx_syntax.specs.Refusals.{IsShaped}
 use Rattle.rx_syntax.specs.Uses.{Use}
-use Rattle.rx_syntax.specs.UsesRead.{no_counts, listed, use_of}
+use Rattle.rx_syntax.specs.UsesRead.{no_counts, listed, use_over}
 use Rattle.rx_syntax.specs.Accepted.{NameFault}
 use Rattle.rx_syntax.specs.NameTables.{no_tables}
 use Rattle.rx_syntax.specs.NameReading.{piece_use, Declares}
@@ -26,7 +26,7 @@ use Rattle.rx_syntax.proofs.Standing.{Answer, token_answer}
 use Rattle.rx_syntax.proofs.OneAnswer.{one_list, not_both, says}
 use Rattle.rx_syntax.proofs.Used.{all_used}
 use Rattle.rx_syntax.proofs.Following.{lexeme_at, tokens_exist, Followed, begins, over_piece, fault_piece}
-use Rattle.rx_syntax.proofs.NamesRead.{no_token, uses_of, counts_of, NamesRead, no_names, longer, counted, over, fault_at, none_left}
+use Rattle.rx_syntax.proofs.NamesRead.{no_token, uses_seen, counts_seen, NamesRead, no_names, longer, counted, over, fault_at, none_left}
 use Rattle.rx_syntax.proofs.UsedWords.{numbers, AreCounts, code_used, declared_used, counts_used, tally_used, tables_used, token_of_use}
 use Rattle.rx_syntax.proofs.TablesSaid.{tables_along, along_append, along_syntax}
 
@@ -37,8 +37,8 @@ pub record Named (version : Version) (text : List ℕ) (limit place : ℕ) (stat
   pub on : (ts : List Lexeme) → LexemesFrom version text place ts → TokensOf text (seen ++ ts)
   pub ran : run seen (at FirstLine 0) ≡ Some state
   pub names : NamesRead text limit seen (declared_in read)
-  pub tables : read.declarations ≡ tables_along text no_tables (uses_of text seen)
-  pub tally : read.tally ≡ numbers text (counts_of text seen)
+  pub tables : read.declarations ≡ tables_along text no_tables (uses_seen text seen)
+  pub tally : read.tally ≡ numbers text (counts_seen text seen)
   pub counts : AreCounts read.tally
 
 pub names_begin : (version : Version) (text : List ℕ) (limit start : ℕ) → IsOfVersion text version start → start ≤ length text
@@ -84,12 +84,12 @@ module _ (version : Version) (text : List ℕ) (limit place : ℕ) (state : Stat
     used = piece_use state.due (Some kind)
 
     abbrev use_here : Option Use
-    use_here = use_of text (counts_of text h.seen) used here
+    use_here = use_over text (counts_seen text h.seen) used here
 
     over_token : (s : State) (after : Reading) → token_step state.due kind state.depth ≡ Ok s → code_over limit read used word ≡ None
         → after ≡ read_over read used word → Followed version text behind s → Named version text limit behind s after
     over_token s after goes none is followed =
-        let c = counts_of text h.seen in
+        let c = counts_seen text h.seen in
         let low = h.followed.low in
         let a : Answer h.seen here state.due state.depth h.ran low (Ok s) =
         subst (λ r. Answer h.seen here state.due state.depth h.ran low r) goes (token_answer h.seen here state.due state.depth h.ran low) in
@@ -104,7 +104,7 @@ module _ (version : Version) (text : List ℕ) (limit place : ℕ) (state : Stat
               (over text limit h.seen (Some state) here h.ran (declared_in read) h.names use_here refl good);
           tables = ap (λ (r : Reading). r.declarations) is ∙ tables_used text limit read c h.tally h.counts here used
               ∙ ap (λ tables. tables_along text tables (listed use_here)) h.tables
-              ∙ sym (along_append text no_tables (uses_of text h.seen) (listed use_here))
+              ∙ sym (along_append text no_tables (uses_seen text h.seen) (listed use_here))
               ∙ ap (tables_along text no_tables) (sym (longer text limit h.seen (Some state) here h.ran));
           tally = ap (λ (r : Reading). r.tally) is ∙ tally_used text limit read c h.tally h.counts here used
               ∙ ap (numbers text) (sym (counted text limit h.seen (Some state) here h.ran));
@@ -113,7 +113,7 @@ module _ (version : Version) (text : List ℕ) (limit place : ℕ) (state : Stat
 
     refused_token : (code : SpecCode) → IsShaped text → code_over limit read used word ≡ Some code → NameFault text limit code place
     refused_token code x fails =
-        let c = counts_of text h.seen in
+        let c = counts_seen text h.seen in
         let more = tokens_exist version text behind in
         fault_at text limit h.seen (Some state) here h.ran (declared_in read) h.names use_here code x.syntax more.0 refl
         (λ u e. token_of_use text c used here u e) (sym (code_used text limit read c h.tally h.counts here used) ∙ fails) (says text x)

@@ -20,11 +20,11 @@ abbrev pub no_token : Lexeme
 no_token = record { kind = Bad; start = 0; behind = 0 }
 
 -- the uses of the first tokens of a text, and what is counted behind them
-abbrev pub uses_of : List ℕ → List Lexeme → List Use
-uses_of text seen = uses_along text seen (at FirstLine 0) (no_counts no_token)
+abbrev pub uses_seen : List ℕ → List Lexeme → List Use
+uses_seen text seen = uses_along text seen (at FirstLine 0) (no_counts no_token)
 
-abbrev pub counts_of : List ℕ → List Lexeme → Counts Lexeme
-counts_of text seen = counts_along text seen (at FirstLine 0) (no_counts no_token)
+abbrev pub counts_seen : List ℕ → List Lexeme → Counts Lexeme
+counts_seen text seen = counts_along text seen (at FirstLine 0) (no_counts no_token)
 
 -- the code at a use, and what is declared behind it, where there is one
 abbrev pub code_on : List ℕ → ℕ → Declared → Option Use → Option SpecCode
@@ -37,35 +37,35 @@ behind_on text names (Some u) = behind_use text names u
 
 -- These names are declared behind the tokens, and no code of names or limits stands at any of them.
 pub record NamesRead (text : List ℕ) (limit : ℕ) (seen : List Lexeme) (names : Declared) : Type 0 where
-  pub faults : (us : List Use) → first_use_fault text limit undeclared (uses_of text seen ++ us) ≡ first_use_fault text limit names us
+  pub faults : (us : List Use) → first_use_fault text limit undeclared (uses_seen text seen ++ us) ≡ first_use_fault text limit names us
 
 pub no_names : (text : List ℕ) (limit : ℕ) → NamesRead text limit [] undeclared
 no_names text limit = record { faults = λ us. refl }
 
 module _ (text : List ℕ) (limit : ℕ) (seen : List Lexeme) (state : Option State) (t : Lexeme) (ran : run seen (at FirstLine 0) ≡ state) where
   -- the uses with one more token
-  pub longer : uses_of text (seen ++ (t ∷ [])) ≡ uses_of text seen ++ listed (use_on text state (counts_of text seen) t)
+  pub longer : uses_seen text (seen ++ (t ∷ [])) ≡ uses_seen text seen ++ listed (use_on text state (counts_seen text seen) t)
   longer =
       uses_append text seen (t ∷ []) (at FirstLine 0) (no_counts no_token)
-      ∙ ap (λ s. uses_of text seen ++ (listed (use_on text s (counts_of text seen) t) ++ [])) ran
-      ∙ ap (λ us. uses_of text seen ++ us) (append-nil (listed (use_on text state (counts_of text seen) t)))
+      ∙ ap (λ s. uses_seen text seen ++ (listed (use_on text s (counts_seen text seen) t) ++ [])) ran
+      ∙ ap (λ us. uses_seen text seen ++ us) (append-nil (listed (use_on text state (counts_seen text seen) t)))
 
   -- what is counted behind one more token
-  pub counted : counts_of text (seen ++ (t ∷ [])) ≡ counts_on text state (counts_of text seen) t
+  pub counted : counts_seen text (seen ++ (t ∷ [])) ≡ counts_on text state (counts_seen text seen) t
   counted =
-      counts_append text seen (t ∷ []) (at FirstLine 0) (no_counts no_token) ∙ ap (λ s. counts_on text s (counts_of text seen) t) ran
+      counts_append text seen (t ∷ []) (at FirstLine 0) (no_counts no_token) ∙ ap (λ s. counts_on text s (counts_seen text seen) t) ran
 
   module _ (names : Declared) (h : NamesRead text limit seen names) where
-    longer_faults : (us : List Use) → first_use_fault text limit undeclared (uses_of text (seen ++ (t ∷ [])) ++ us)
-        ≡ first_use_fault text limit names (listed (use_on text state (counts_of text seen) t) ++ us)
+    longer_faults : (us : List Use) → first_use_fault text limit undeclared (uses_seen text (seen ++ (t ∷ [])) ++ us)
+        ≡ first_use_fault text limit names (listed (use_on text state (counts_seen text seen) t) ++ us)
     longer_faults us =
-        let here = listed (use_on text state (counts_of text seen) t) in
+        let here = listed (use_on text state (counts_seen text seen) t) in
         ap (λ vs. first_use_fault text limit undeclared (vs ++ us)) longer
-        ∙ ap (first_use_fault text limit undeclared) (append_assoc (uses_of text seen) here us)
+        ∙ ap (first_use_fault text limit undeclared) (append_assoc (uses_seen text seen) here us)
         ∙ h.faults (here ++ us)
 
     -- over a token at which no code stands
-    pub over : (o : Option Use) → use_on text state (counts_of text seen) t ≡ o → code_on text limit names o ≡ None
+    pub over : (o : Option Use) → use_on text state (counts_seen text seen) t ≡ o → code_on text limit names o ≡ None
         → NamesRead text limit (seen ++ (t ∷ [])) (behind_on text names o)
     over None e good = record { faults = λ us. longer_faults us ∙ ap (λ o. first_use_fault text limit names (listed o ++ us)) e }
     over (Some u) e good = record {
@@ -74,18 +74,18 @@ module _ (text : List ℕ) (limit : ℕ) (seen : List Lexeme) (state : Option St
     }
 
     -- at a token at which a code stands
-    pub fault_at : (o : Option Use) (code : SpecCode) (syntax : Syntax) (rest : List Lexeme) → use_on text state (counts_of text seen) t ≡ o
+    pub fault_at : (o : Option Use) (code : SpecCode) (syntax : Syntax) (rest : List Lexeme) → use_on text state (counts_seen text seen) t ≡ o
         → ((u : Use) → o ≡ Some u → use_token u ≡ t) → code_on text limit names o ≡ Some code → Says text syntax → TokensOf text (seen ++ (t ∷ rest))
         → NameFault text limit code t.start
     fault_at None code syntax rest e token bad says tokens = absurd cc
     fault_at (Some u) code syntax rest e token bad says tokens =
         let all = seen ++ (t ∷ rest) in
-        let behind = counts_of text seen in
+        let behind = counts_seen text seen in
         let rests = uses_along text rest (run (t ∷ []) state) (counts_on text state behind t) in
         let is : Specifies all syntax = subst (λ ts. Specifies ts syntax) (one_list text says.are_tokens tokens) says.specifies in
-        let cut : uses_of text all ≡ uses_of text seen ++ (listed (use_on text state behind t) ++ rests) =
+        let cut : uses_seen text all ≡ uses_seen text seen ++ (listed (use_on text state behind t) ++ rests) =
         uses_append text seen (t ∷ rest) (at FirstLine 0) (no_counts no_token)
-        ∙ ap (λ s. uses_of text seen ++ uses_along text (t ∷ rest) s behind) ran in
+        ∙ ap (λ s. uses_seen text seen ++ uses_along text (t ∷ rest) s behind) ran in
         record {
           syntax = syntax;
           says = says;
@@ -100,4 +100,4 @@ module _ (text : List ℕ) (limit : ℕ) (seen : List Lexeme) (state : Option St
 pub none_left : (text : List ℕ) (limit : ℕ) (seen : List Lexeme) (names : Declared) (syntax : Syntax) → NamesRead text limit seen names
     → Specifies seen syntax → first_use_fault text limit undeclared (syntax_uses text syntax) ≡ None
 none_left text limit seen names syntax h is =
-    ap (first_use_fault text limit undeclared) (sym (all_used text seen syntax is (no_counts no_token)) ∙ sym (append-nil (uses_of text seen))) ∙ h.faults []
+    ap (first_use_fault text limit undeclared) (sym (all_used text seen syntax is (no_counts no_token)) ∙ sym (append-nil (uses_seen text seen))) ∙ h.faults []

@@ -151,11 +151,11 @@ module _ (text : List ℕ) (limit : ℕ) where
 -- each name has its own number
 
 -- Each name differs from all before it.
-abbrev Fresh : List (List ℕ) → List (List ℕ) → Type 0
+abbrev pub Fresh : List (List ℕ) → List (List ℕ) → Type 0
 Fresh front [] = ⊤
 Fresh front (w ∷ ws) = (is_among w front ≡ false) × Fresh (front ++ (w ∷ [])) ws
 
-either_false : (a b : Bool) → (a || b) ≡ false → (a ≡ false) × (b ≡ false)
+pub either_false : (a b : Bool) → (a || b) ≡ false → (a ≡ false) × (b ≡ false)
 either_false true b e = absurd cc
 either_false false b e = (refl, e)
 

@@ -1,5 +1,5 @@
 -- What the tokens of a printed specification say.
-use Rattle.std.proofs.Common.{◌≡◌, ℕ, ◌+◌, ◌<◌, List, [], ◌∷◌, ◌++◌, length, map, flat_map, codes, refl, ap, sym, ◌∙◌, arith}
+use Rattle.std.proofs.Common.{◌≡◌, ℕ, ◌+◌, ◌<◌, ◌≤◌, List, [], ◌∷◌, ◌++◌, length, map, flat_map, codes, refl, ap, sym, ◌∙◌}
 use Rattle.std.specs.Prelude.{◌≢◌, slice_index_or}
 use Rattle.std.proofs.lemmas.List.{append_assoc}
 use Rattle.rx_lang.specs.Expression.{Expr}
@@ -16,8 +16,9 @@ use Rattle.rx_syntax.proofs.PrintedTrees.{StandAt, stand_front, stand_behind, wh
 use Rattle.rx_syntax.proofs.PrintedSections.{names_bits, symbol_bits, Statement, statement_bits, statement_of, names_read, symbol_read, statement_read, SayThem, statements_read}
 use Rattle.rx_syntax.proofs.NewNames.{behind_lines, behind_symbols, lines_declared, symbols_declared, symbols_numbered, outputs_numbered}
 use Rattle.rx_syntax.proofs.CountedUses.{AllProper}
+use Rattle.rx_syntax.proofs.Depths.{deepest}
 use Rattle.rx_syntax.proofs.CleanBack.{clean_back}
-use Rattle.rx_syntax.proofs.PrintedText.{names_in, statements_in, spec_bits, spec_flat, IsPrintable}
+use Rattle.rx_syntax.proofs.PrintedText.{names_in, statements_in, spec_bits, IsReadBack}
 use Rattle.rx_syntax.proofs.PrintedVersion.{sections_at, sections_stand, printed_tokens}
 
 names_some : (text : List ℕ) (place : ℕ) (kind : Kind) (keyword : List ℕ) (names : List (List ℕ)) (rest : List ℕ) → names ≢ []
@@ -36,7 +37,11 @@ symbols_some text place [] rest some stands = absurd (some refl)
 symbols_some text place (s ∷ ss) rest some stands =
     statements_read SymbolOf symbol_bits (named_pattern text) text s ss (symbols_say text (s ∷ ss)) place rest stands
 
-module _ (limit : ℕ) (spec : Specification) (h : IsPrintable limit spec) where
+-- the tokens of the printed text
+abbrev pub printed_as_tokens : Specification → List Lexeme
+printed_as_tokens spec = tokens_of (sections_at (needs_version_2 spec)) (spec_bits spec)
+
+module _ (limit : ℕ) (spec : Specification) (h : IsReadBack limit spec) where
   abbrev bits : Statement → List Bit
   bits s = statement_bits (names_in spec) spec.outputs s
 
@@ -79,8 +84,8 @@ module _ (limit : ℕ) (spec : Specification) (h : IsPrintable limit spec) where
     pub outputs : map (word_of (printed spec)) syntax.outputs ≡ spec.outputs
     pub statements : map (statement_of meant) syntax.exprs ≡ statements_in spec
 
-  pub says_back : SaysBack
-  says_back =
+  pub says_back : deepest 0 (printed_as_tokens spec) ≤ 200 → SaysBack
+  says_back shallow =
       let ls = names_bits kinds.Line (codes "line") spec.lines in
       let ss = flat_map symbol_bits spec.symbols in
       let os = names_bits kinds.Output (codes "output") spec.outputs in
@@ -121,13 +126,12 @@ module _ (limit : ℕ) (spec : Specification) (h : IsPrintable limit spec) where
         outputs = one o.1;
         exprs = e.1;
       } in
-      let flat = (spec_flat spec h.shallow at0 0).1 in
       record {
         syntax = found;
         says = record {
           tokens = tokens;
           are_tokens = printed_tokens limit spec h;
-          clean = clean_back tokens found is (omega (arith, flat));
+          clean = clean_back tokens found is shallow;
           specifies = is;
         };
         lines = l.2;

@@ -12,6 +12,7 @@ use Rattle.rx_syntax.specs.Tokens.{place_byte, is_run_byte}
 use Rattle.rx_syntax.specs.Grammar.{keyword_of}
 use Rattle.rx_syntax.specs.Lexemes.{run_kind}
 use Rattle.rx_syntax.specs.Uses.{undeclared}
+use Rattle.rx_syntax.specs.Printable.{version_for}
 use Rattle.rx_syntax.specs.Printed.{has_repeat, have_repeat, is_some, needs_version_2, statement_text, names_text, symbol_text}
 use Rattle.rx_syntax.specs.declared.version.Version.{Version}
 use Rattle.rx_syntax.specs.declared.version.Version.TheVariants.{One, Two}
@@ -109,10 +110,6 @@ spec_text spec =
 
 -- the version
 
-abbrev pub version_for : Bool → Version
-version_for false = One
-version_for true = Two
-
 -- What version 1 does not have stands in version 2.
 abbrev pub IsAllowed : Version → Statement → Type 0
 IsAllowed version s = (has_repeat s.expr ≡ true → version ≡ Two) × (s.scans ≡ true → version ≡ Two)
@@ -155,17 +152,13 @@ allowed_in spec false e =
     let parts = old_parts (have_repeat spec.statements) (have_repeat spec.scans) (is_some spec.scans) e in
     old_allowed spec.statements spec.scans parts.0 parts.1
 
--- What a specification keeps whose text is read back, where expressions may have so many symbols.
+-- What a specification keeps whose text is read back where expressions may have so many symbols, parentheses aside.
 
 abbrev pub AllPlain : Version → List (List ℕ) → Type 0
 AllPlain version [] = ⊤
 AllPlain version (name ∷ names) = IsPlainName version name × AllPlain version names
 
--- printed with at most 200 parentheses open at once
-abbrev pub AllShallow : List Statement → Type 0
-AllShallow ss = EachExpr (λ e. depth e ≤ 200) ss
-
-pub record IsPrintable (limit : ℕ) (spec : Specification) : Type 0 where
+pub record IsReadBack (limit : ℕ) (spec : Specification) : Type 0 where
   pub some_lines : spec.lines ≢ []
   pub some_symbols : spec.symbols ≢ []
   pub some_outputs : spec.outputs ≢ []
@@ -178,7 +171,6 @@ pub record IsPrintable (limit : ℕ) (spec : Specification) : Type 0 where
   pub outputs_fit : OutputsFit (behind_symbols (behind_lines undeclared spec.lines) spec.symbols) spec.outputs
   pub proper : AllProper (names_in spec) spec.outputs (statements_in spec)
   pub few : total (statements_in spec) ≤ limit
-  pub shallow : AllShallow (statements_in spec)
 
 -- the parts fit one after another
 
@@ -296,7 +288,7 @@ none_long : {A : Type 0} (xs : List A) → xs ≢ [] → length xs ≢ 0
 none_long [] some e = some refl
 none_long (x ∷ xs) some e = omega (arith, e)
 
-module _ (limit : ℕ) (spec : Specification) (h : IsPrintable limit spec) where
+module _ (limit : ℕ) (spec : Specification) (h : IsReadBack limit spec) where
   version : Version
   version = version_for (needs_version_2 spec)
 
@@ -354,6 +346,10 @@ symbols_flat (s ∷ ss) n = flat_both (symbol_bits s) (flat_map symbol_bits ss) 
 keyword_flat : (scans : Bool) (xs : List Bit) (n : ℕ) → IsFlat xs n → IsFlat (piece (keyword_of scans) (keyword_bytes scans) ∷ xs) n
 keyword_flat false xs n h = flat_piece kinds.Expr (codes "expr") xs n (λ d. refl) h
 keyword_flat true xs n h = flat_piece kinds.Scan (codes "scan") xs n (λ d. refl) h
+
+-- printed with at most 200 parentheses open at once
+abbrev pub AllShallow : List Statement → Type 0
+AllShallow ss = EachExpr (λ e. depth e ≤ 200) ss
 
 statements_flat : (symbols outputs : List (List ℕ)) (ss : List Statement) → AllShallow ss → IsFlat (flat_map (statement_bits symbols outputs) ss) 200
 statements_flat symbols outputs [] h = flat_none 200

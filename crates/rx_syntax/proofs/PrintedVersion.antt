@@ -4,6 +4,7 @@ use Rattle.std.specs.Prelude.{Option, ◌≢◌}
 use Rattle.std.proofs.lemmas.List.{append-nil}
 use Rattle.rx_lang.specs.Specification.{Specification}
 use Rattle.rx_syntax.specs.Lexemes.{Lexeme, first_size, first_kind, LexemesFrom, ended, gap, token, word_of, BeginsVersion2, TokensOf}
+use Rattle.rx_syntax.specs.Printable.{version_for}
 use Rattle.rx_syntax.specs.Printed.{needs_version_2, version_text, names_text, printed}
 use Rattle.rx_syntax.specs.declared.version.Version.TheVariants.{One, Two}
 use Rattle.rx_syntax.specs.declared.kind.Kind.{Kind}
@@ -11,7 +12,7 @@ use Rattle.rx_syntax.specs.declared.kind.Kind.TheVariants as kinds
 use Rattle.rx_syntax.proofs.Bits.{Bit, blank, piece, bits_text, tokens_of, AllFit, word_read, lexed, sign_fits}
 use Rattle.rx_syntax.proofs.PrintedExprs.{space_fits, blank_line_fits}
 use Rattle.rx_syntax.proofs.PrintedTrees.{StandAt}
-use Rattle.rx_syntax.proofs.PrintedText.{spec_bits, sections_text, spec_text, version_for, IsPrintable, spec_fits}
+use Rattle.rx_syntax.proofs.PrintedText.{spec_bits, sections_text, spec_text, IsReadBack, spec_fits}
 
 -- where the sections begin
 abbrev pub sections_at : Bool → ℕ
@@ -90,7 +91,7 @@ line_first : (lines : List (List ℕ)) (more : List ℕ) → lines ≢ [] → (r
 line_first [] more some = absurd (some refl)
 line_first (name ∷ names) more some = (((name ++ flat_map (λ name. codes " " ++ name) names) ++ codes ";\n") ++ more, refl)
 
-module _ (limit : ℕ) (spec : Specification) (h : IsPrintable limit spec) where
+module _ (limit : ℕ) (spec : Specification) (h : IsReadBack limit spec) where
   by_version : (b : Bool) → needs_version_2 spec ≡ b → TokensOf (printed spec) (tokens_of (sections_at b) (spec_bits spec))
   by_version true e =
       new_tokens (printed spec) (spec_bits spec) (printed_as spec true e)

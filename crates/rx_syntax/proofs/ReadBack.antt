@@ -9,6 +9,7 @@ use Rattle.rx_syntax.specs.Grammar.{Tree, NamesOf, SymbolTokens, SymbolOf, State
 use Rattle.rx_syntax.specs.Uses.{undeclared, syntax_uses, first_use_fault}
 use Rattle.rx_syntax.specs.Accepted.{number_in, resolve, named_pattern, trees_of, meaning_of, said, Says, Accepted}
 use Rattle.rx_syntax.specs.Refusals.{opened, open_after}
+use Rattle.rx_syntax.specs.Printable.{version_for}
 use Rattle.rx_syntax.specs.Printed.{needs_version_2, printed}
 use Rattle.rx_syntax.specs.declared.kind.Kind.{Kind}
 use Rattle.rx_syntax.specs.declared.kind.Kind.TheVariants.{Line, Output}
@@ -23,10 +24,11 @@ use Rattle.rx_syntax.proofs.OldTexts.{IsOld, old_tokens, nothing_new}
 use Rattle.rx_syntax.proofs.Depths.{deepest, deepest_append, open_append, balanced, depth, deep_enough, clean_deepest}
 use Rattle.rx_syntax.proofs.PrintedSections.{statement_of}
 use Rattle.rx_syntax.proofs.CountedUses.{AllProper, total}
-use Rattle.rx_syntax.proofs.PrintedText.{names_in, statements_in, version_for, AllPlain, AllShallow, IsPrintable}
-use Rattle.rx_syntax.proofs.PrintedReads.{meant, SaysBack, says_back}
+use Rattle.rx_syntax.proofs.PrintedText.{names_in, statements_in, spec_flat, AllPlain, AllShallow, IsReadBack}
+use Rattle.rx_syntax.proofs.PrintedReads.{printed_as_tokens, meant, SaysBack, says_back}
+use Rattle.rx_syntax.proofs.PrintedVersion.{sections_at}
 use Rattle.rx_syntax.proofs.NewNames.{behind_lines, behind_symbols, LinesFit, SymbolsFit, OutputsFit}
-use Rattle.rx_syntax.proofs.Printable.{plain_names, old_names}
+use Rattle.rx_syntax.proofs.PlainNames.{plain_names, old_names}
 use Rattle.rx_syntax.proofs.KeptStatements.{each_sorted, total_sorted, some_sorted, exprs_of, exprs_said, exprs_printed, scans_printed}
 use Rattle.rx_syntax.proofs.UsesInOrder.{InOrder, means_in, in_order, faultless}
 
@@ -46,7 +48,7 @@ long : {A : Type 0} (xs : List A) → xs ≢ [] → 1 ≤ length xs
 long [] some = absurd (some refl)
 long (x ∷ xs) some = omega arith
 
-not_empty : {A : Type 0} (xs : List A) → 1 ≤ length xs → xs ≢ []
+pub not_empty : {A : Type 0} (xs : List A) → 1 ≤ length xs → xs ≢ []
 not_empty [] h e = omega (arith, h)
 not_empty (x ∷ xs) h e = cc
 
@@ -158,8 +160,8 @@ module _ (text : List ℕ) (limit : ℕ) (syntax : Syntax) (says : Says text syn
   one_expr : (xs : List Lexeme) (found : List StatementTree) → ExprOf xs found → 1 ≤ length found
   one_expr xs found h = omega (arith, ap (λ xs. length xs) h.entry)
 
-  printable : IsPrintable limit said_spec
-  printable =
+  kept : IsReadBack limit said_spec
+  kept =
       let plain = plain_names text syntax says in
       let h = says.specifies in
       let lines = statements_some (NamesOf Line) (names_long Line) h.lines in
@@ -178,8 +180,10 @@ module _ (text : List ℕ) (limit : ℕ) (syntax : Syntax) (says : Says text syn
         outputs_fit = ordered.outputs_fit;
         proper = proper;
         few = few;
-        shallow = syntax_shallow;
       }
+
+  shallow : deepest 0 (printed_as_tokens said_spec) ≤ 200
+  shallow = omega (arith, (spec_flat said_spec syntax_shallow (sections_at (needs_version_2 said_spec)) 0).1)
 
 -- a specification from its parts
 abbrev with_parts : List (List ℕ) → List NamedPattern → List (List ℕ) → List Expr → List Expr → Specification
@@ -187,12 +191,12 @@ with_parts lines symbols outputs statements scans =
     record { lines = lines; symbols = symbols; outputs = outputs; statements = statements; scans = scans }
 
 -- The printed text of a specification is accepted as the specification.
-module _ (limit : ℕ) (spec : Specification) (h : IsPrintable limit spec) where
+module _ (limit : ℕ) (spec : Specification) (h : IsReadBack limit spec) (shallow : deepest 0 (printed_as_tokens spec) ≤ 200) where
   abbrev text : List ℕ
   text = printed spec
 
   b : SaysBack limit spec h
-  b = says_back limit spec h
+  b = says_back limit spec h shallow
 
   abbrev symbols : List NamedPattern
   symbols = map (named_pattern text) b.syntax.symbols
@@ -241,4 +245,5 @@ module _ (limit : ℕ) (spec : Specification) (h : IsPrintable limit spec) where
 
 pub read_back : (text : List ℕ) (limit : ℕ) (spec : Specification) → Accepted text limit spec → Accepted (printed spec) limit spec
 read_back text limit spec h =
-    subst (λ s. Accepted (printed s) limit s) (sym h.is) (printed_back limit (said text h.syntax) (printable text limit h.syntax h.says h.no_fault))
+    subst (λ s. Accepted (printed s) limit s) (sym h.is) (printed_back limit (said text h.syntax) (kept text limit h.syntax h.says h.no_fault)
+    (shallow text limit h.syntax h.says h.no_fault))

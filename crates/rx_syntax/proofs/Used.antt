@@ -5,7 +5,7 @@ use Rattle.std.proofs.lemmas.List.{append_assoc, append-nil}
 use Rattle.rx_syntax.specs.Lexemes.{Lexeme}
 use Rattle.rx_syntax.specs.Grammar.{Tree, leaf, union, counted, Level, unions, sequences, parts, Derives, named, closed, classed, starred, looped, optioned, noted, repeated, alone, followed, single, either, AreNames, IsPattern, IsNumber, class_tree, NamesOf, SymbolTokens, StatementTree, keyword_of, SymbolOf, ExprOf, Statements, one, more, Syntax, Specifies}
 use Rattle.rx_syntax.specs.Uses.{Use, line_use, symbol_use, pattern_use, output_use, mark_use, leaf_use, least_use, most_use, copies_use, number_of, tree_leaves, tree_uses, line_uses, symbol_uses, output_uses, expr_uses, syntax_uses}
-use Rattle.rx_syntax.specs.UsesRead.{Counts, part_leaves, repeated_leaves, closed_at, kind_of_use, use_of, counts_of, use_on, counts_on, listed, uses_along, counts_along}
+use Rattle.rx_syntax.specs.UsesRead.{Counts, part_leaves, repeated_leaves, closed_at, kind_of_use, use_over, counts_over, use_on, counts_on, listed, uses_along, counts_along}
 use Rattle.rx_syntax.specs.declared.kind.Kind.{Kind}
 use Rattle.rx_syntax.specs.declared.kind.Kind.TheVariants.{Name, Bits, Pattern, Line, Symbol, Output, Expr, Scan, Bar, Mark, Open, Close, Equals, Semicolon, OpenBrace, CloseBrace, Comma, OpenBracket, CloseBracket}
 use Rattle.rx_syntax.specs.declared.machine.Due.{Due}
@@ -39,9 +39,9 @@ module _ (text : List ℕ) where
   -- one token of a known kind
   uses_go : (t : Lexeme) (ts : List Lexeme) (due : Due) (d : ℕ) (kind : Kind) (c : Counts Lexeme) → t.kind ≡ kind
       → uses_along text (t ∷ ts) (at due d) c
-      ≡ listed (use_of text c (kind_of_use due kind) t) ++ uses_along text ts (step due kind d) (counts_of text c (kind_of_use due kind) t)
+      ≡ listed (use_over text c (kind_of_use due kind) t) ++ uses_along text ts (step due kind d) (counts_over text c (kind_of_use due kind) t)
   uses_go t ts due d kind c e =
-      ap (λ k. listed (use_of text c (kind_of_use due k) t) ++ uses_along text ts (step due k d) (counts_of text c (kind_of_use due k) t)) e
+      ap (λ k. listed (use_over text c (kind_of_use due k) t) ++ uses_along text ts (step due k d) (counts_over text c (kind_of_use due k) t)) e
 
   -- a list, and then another
   uses : (xs ys zs : List Lexeme) (s m : Option State) (c after : Counts Lexeme) (us vs : List Use) → zs ≡ xs ++ ys → run xs s ≡ m

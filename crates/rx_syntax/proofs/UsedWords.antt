@@ -6,7 +6,7 @@ use Rattle.std.proofs.lemmas.List.{map-append}
 use Rattle.rx_syntax.specs.Lexemes.{Lexeme, word_of}
 use Rattle.rx_syntax.specs.Uses.{Use, Declared, number_of, use_token}
 use Rattle.rx_syntax.specs.WordUses.{WordUse, by_word, behind_word}
-use Rattle.rx_syntax.specs.UsesRead.{Counts, part_leaves, repeated_leaves, closed_at, counts_behind, use_by, use_of, counts_of, listed}
+use Rattle.rx_syntax.specs.UsesRead.{Counts, part_leaves, repeated_leaves, closed_at, counts_behind, use_by, use_over, counts_over, listed}
 use Rattle.rx_syntax.specs.Accepted.{place_bit}
 use Rattle.rx_syntax.specs.NameReading.{word_by}
 use Rattle.rx_syntax.specs.NameSteps.{declared_in, word_code_of, code_at, read_at, code_over, read_over}
@@ -177,14 +177,14 @@ module _ (text : List ℕ) (limit : ℕ) (read : Reading) (c : Counts Lexeme) (t
   by_tally : (used : UseKind) → word_by read.tally used (word_of text t) ≡ word_of_use text (use_by text c used t)
   by_tally used = ap (λ n. word_by n used (word_of text t)) tally ∙ sym (same_word text c used t)
 
-  pub code_used : (used : Option UseKind) → code_over limit read used (word_of text t) ≡ code_on text limit (declared_in read) (use_of text c used t)
+  pub code_used : (used : Option UseKind) → code_over limit read used (word_of text t) ≡ code_on text limit (declared_in read) (use_over text c used t)
   code_used None = refl
   code_used (Some used) =
       code_is limit read used (word_of text t) counts ∙ ap (word_code_of limit (declared_in read)) (by_tally used)
       ∙ code_of_use text limit (declared_in read) (use_by text c used t)
 
   pub declared_used : (used : Option UseKind)
-      → declared_in (read_over read used (word_of text t)) ≡ behind_on text (declared_in read) (use_of text c used t)
+      → declared_in (read_over read used (word_of text t)) ≡ behind_on text (declared_in read) (use_over text c used t)
   declared_used None = refl
   declared_used (Some used) =
       declared_is read used (word_of text t) counts ∙ ap (behind_of (declared_in read)) (by_tally used)
@@ -214,12 +214,12 @@ module _ (text : List ℕ) (limit : ℕ) (read : Reading) (c : Counts Lexeme) (t
   behind_numbers Most = refl
   behind_numbers Copies = refl
 
-  pub tally_used : (used : Option UseKind) → (read_over read used (word_of text t)).tally ≡ numbers text (counts_of text c used t)
+  pub tally_used : (used : Option UseKind) → (read_over read used (word_of text t)).tally ≡ numbers text (counts_over text c used t)
   tally_used None = tally
   tally_used (Some used) = ap (counts_behind (λ n. n) used (digits_value 10 (word_of text t))) tally ∙ behind_numbers used
 
   pub tables_used : (used : Option UseKind)
-      → (read_over read used (word_of text t)).declarations ≡ tables_along text read.declarations (listed (use_of text c used t))
+      → (read_over read used (word_of text t)).declarations ≡ tables_along text read.declarations (listed (use_over text c used t))
   tables_used None = refl
   tables_used (Some Line) = refl
   tables_used (Some Symbol) = refl
@@ -235,7 +235,7 @@ module _ (text : List ℕ) (limit : ℕ) (read : Reading) (c : Counts Lexeme) (t
   tables_used (Some Copies) = refl
 
 -- the token of a use
-pub token_of_use : (text : List ℕ) (c : Counts Lexeme) (used : Option UseKind) (t : Lexeme) (u : Use) → use_of text c used t ≡ Some u
+pub token_of_use : (text : List ℕ) (c : Counts Lexeme) (used : Option UseKind) (t : Lexeme) (u : Use) → use_over text c used t ≡ Some u
     → use_token u ≡ t
 token_of_use text c None t u e = absurd cc
 token_of_use text c (Some used) t u e = by_kind used e

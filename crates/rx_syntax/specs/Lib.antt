@@ -7,6 +7,7 @@ pub mod Uses
 pub mod Accepted
 pub mod SpecRefusal
 pub mod Printed
+pub mod Printable
 pub mod PrintExamples
 -- Definitions that serve private contracts alone:
 pub mod Machine

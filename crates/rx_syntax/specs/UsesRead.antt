@@ -89,13 +89,13 @@ use_by text c Least t = Some (least_use t)
 use_by text c Most t = Some (most_use c.least t)
 use_by text c Copies t = Some (copies_use t ((c.most - 1) * part_leaves c))
 
-abbrev pub use_of : List ℕ → Counts Lexeme → Option UseKind → Lexeme → Option Use
-use_of text c None t = None
-use_of text c (Some used) t = use_by text c used t
+abbrev pub use_over : List ℕ → Counts Lexeme → Option UseKind → Lexeme → Option Use
+use_over text c None t = None
+use_over text c (Some used) t = use_by text c used t
 
-abbrev pub counts_of : List ℕ → Counts Lexeme → Option UseKind → Lexeme → Counts Lexeme
-counts_of text c None t = c
-counts_of text c (Some used) t = counts_behind (number_of text) used t c
+abbrev pub counts_over : List ℕ → Counts Lexeme → Option UseKind → Lexeme → Counts Lexeme
+counts_over text c None t = c
+counts_over text c (Some used) t = counts_behind (number_of text) used t c
 
 abbrev pub kind_on : Option State → Kind → Option UseKind
 kind_on None kind = None
@@ -103,10 +103,10 @@ kind_on (Some state) kind = kind_of_use state.due kind
 
 -- the use that a token is, in a state
 abbrev pub use_on : List ℕ → Option State → Counts Lexeme → Lexeme → Option Use
-use_on text state c t = use_of text c (kind_on state t.kind) t
+use_on text state c t = use_over text c (kind_on state t.kind) t
 
 abbrev pub counts_on : List ℕ → Option State → Counts Lexeme → Lexeme → Counts Lexeme
-counts_on text state c t = counts_of text c (kind_on state t.kind) t
+counts_on text state c t = counts_over text c (kind_on state t.kind) t
 
 abbrev pub listed : Option Use → List Use
 listed None = []

@@ -5,11 +5,15 @@ ghost use Rattle.rx_syntax.specs.Lexemes.{Lexeme, TokensOf};
 ghost use Rattle.rx_syntax.specs.Refusals.{StandsFirst, IsShaped};
 ghost use Rattle.rx_syntax.specs.Accepted.{Accepted, Refused};
 ghost use Rattle.rx_syntax.specs.Printed.{printed};
+ghost use Rattle.rx_syntax.specs.Printable.{IsPrintable};
 ghost use Rattle.rx_syntax.specs.SpecRefusal.{SpecRefusal};
 ghost use Rattle.rx_text.specs.Name.{is_name};
 ghost use Rattle.rx_text.specs.declared.place.Place.{Place};
 ghost use Rattle.rx_lang.specs.Specification.{Specification};
+ghost use Rattle.rx_lang.specs.Tables.{Tables, specification};
 ghost use Rattle.rx_syntax.specs.declared.spec_code.SpecCode.{SpecCode};
+
+use rx_lang::laws::trees_are_made_of_their_children;
 
 /// Every text has exactly one list of tokens with kinds and places, by the one version that it is of.
 pub fn texts_have_tokens_with_places()
@@ -51,6 +55,14 @@ pub fn texts_are_accepted_or_refused_at_a_place()
 pub fn printed_texts_are_read_back()
     ensures { (text : List ℕ) (limit : ℕ) (spec : Specification) → Accepted text limit spec → Accepted (printed spec) limit spec }
 {}
+
+/// The text that a specification is printed as is accepted as that specification, with any bound on symbols that it keeps, where
+/// its names are names of the version of the text, and at most 200 parentheses are open at once.
+pub fn printed_specifications_are_accepted()
+    ensures { (limit : ℕ) (tables : Tables) → IsPrintable limit tables → Accepted (printed (specification tables)) limit (specification tables) }
+{
+    trees_are_made_of_their_children();
+}
 
 /// The lines and outputs of an accepted specification bear names of the language.
 pub fn accepted_names_are_names()

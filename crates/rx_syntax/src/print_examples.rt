@@ -1,8 +1,8 @@
 //! Worked examples of printed texts. Each is the contract of a function that does nothing.
 
 ghost use Rattle.std.specs.Prelude.{◌≡◌, ◌∷◌, ◌++◌, [], codes};
-ghost use Rattle.rx_lang.specs.Examples.{last_symbol_marked, overlapping_symbols};
-ghost use Rattle.rx_lang.specs.Expression.{marked, optional, plus, sequence, star, symbol, union};
+ghost use Rattle.rx_lang.specs.Examples.{last_symbol_marked, one_symbol, overlapping_symbols};
+ghost use Rattle.rx_lang.specs.Expression.{marked, optional, plus, repeated, sequence, star, symbol, union};
 ghost use Rattle.rx_syntax.specs.Printed.{expr_text, printed};
 ghost use Rattle.rx_syntax.specs.PrintExamples.{text_of};
 
@@ -33,4 +33,18 @@ pub fn encloses_what_stands_under_a_sign()
     ensures options { text_of (optional (sequence (symbol 0) (symbol 1))) ≡ codes "(a b)?" }
     ensures marks { text_of (marked (sequence (symbol 0) (symbol 1)) 0) ≡ codes "(a b) !z" }
     ensures signs { text_of (plus (star (marked (optional (symbol 0)) 0))) ≡ codes "a? !z*+" }
+{}
+
+/// A counted repeat stands right behind its operand, as a sign does.
+pub fn prints_counted_repeats()
+    ensures symbols { text_of (repeated (symbol 0) 2 3) ≡ codes "a{2,3}" }
+    ensures sequences { text_of (repeated (sequence (symbol 0) (symbol 1)) 0 1) ≡ codes "(a b){0,1}" }
+    ensures repeats { text_of (marked (repeated (repeated (symbol 0) 1 1) 0 2) 0) ≡ codes "a{1,1}{0,2} !z" }
+{}
+
+/// The version is stated where there is a counted repeat or a scan, and scans stand last.
+pub fn states_the_version_where_it_is_needed()
+    ensures repeats { printed (one_symbol (marked (repeated (symbol 0) 2 3) 0 ∷ [])) ≡ codes "version 2;\nline x;\nsymbol a = 1;\noutput z;\nexpr a{2,3} !z;\n" }
+    ensures scans { printed (record (one_symbol (symbol 0 ∷ [])) { scans = marked (symbol 0) 0 ∷ [] })
+        ≡ codes "version 2;\nline x;\nsymbol a = 1;\noutput z;\nexpr a;\nscan a !z;\n" }
 {}

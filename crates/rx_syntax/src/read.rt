@@ -45,14 +45,15 @@ impl From<NoMemory> for ReadSpecFault {
     }
 }
 
-/// Reads a specification, whose expressions may have so many symbols. It is `Ok` exactly where the text is accepted, and
-/// gives the specification that the text stands for. It takes time and memory in proportion to the text.
+/// Reads a specification of either version, whose expressions may have so many symbols, copies under counted repeats among
+/// them. It is `Ok` exactly where the text is accepted, and gives the specification that the text stands for. It takes time
+/// and memory in proportion to the text, whatever numbers stand in it.
 ///
 /// # Errors
 ///
 /// `Fault` with the code and the place of the text's refusal: first the codes of bytes, tokens, sections and parentheses,
-/// over the whole text, and where there is none the codes of names, patterns and counts. `NoMemory` where an allocation
-/// was refused.
+/// over the whole text, and where there is none the codes of names, patterns, numbers and counts. `NoMemory` where an
+/// allocation was refused.
 pub fn read_spec(alloc: Global, text: &[u8], most_leaves: u32) -> Result<Spec, ReadSpecFault>
     requires some_leaves { 1 ≤ most_leaves }
     requires few_leaves { most_leaves ≤ 4096 }

@@ -69,7 +69,7 @@ module _ (version : Version) where
       let kind : token_kind version byte (front_word byte rest) ≡ kinds.Name = cc in
       by_letter (is_letter byte) byte rest refl kind
 
-  plain_front : (text : List ℕ) → first_kind version text ≡ Some kinds.Name → IsPlainName version (take (first_size version text) text)
+  pub plain_front : (text : List ℕ) → first_kind version text ≡ Some kinds.Name → IsPlainName version (take (first_size version text) text)
   plain_front [] e = absurd cc
   plain_front (byte ∷ rest) e = by_gap (is_gap_byte byte) byte rest e
 
