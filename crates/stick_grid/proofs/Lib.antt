@@ -23,6 +23,15 @@ mod ListedRows
 mod PlanWindows
 mod PlanTilings
 mod PlanNetworks
+mod MatchedLists
+mod Ranges
 mod Mirrors
 mod MirroredDevices
 mod MirroredModules
+mod Carried
+mod CoveredNets
+mod CoveredNames
+mod CoveredBorders
+mod RenamedDevices
+mod CoveredDevices
+mod CoveredModules

@@ -164,7 +164,7 @@ pub same_plan : (one other : Plan) → HaveSameTiles one other → IsPlan one �
 same_plan one other h known = part_plan other one 0 0 (window_of other one (same_back one other h)) known
 
 -- the lists of two functions that agree
-same_flat : {X : Type 0} (f g : ℕ → List X) (a n : ℕ) → ((k : ℕ) → k < a + n → f k ≡ g k) → flat_map f (range_with_len a n) ≡ flat_map g (range_with_len a n)
+pub same_flat : {X : Type 0} (f g : ℕ → List X) (a n : ℕ) → ((k : ℕ) → k < a + n → f k ≡ g k) → flat_map f (range_with_len a n) ≡ flat_map g (range_with_len a n)
 same_flat f g a zero agree = refl
 same_flat f g a (suc n) agree =
     ap (λ l. l ++ flat_map f (range_with_len (a + 1) n)) (agree a (omega arith))

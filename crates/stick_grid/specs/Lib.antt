@@ -11,6 +11,7 @@ pub mod Windows
 pub mod Depicted
 pub mod Modules
 pub mod Mirrors
+pub mod PlacedModules
 -- Definitions that serve private contracts alone:
 pub mod PieceGraph
 pub mod NetMaps

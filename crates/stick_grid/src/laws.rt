@@ -6,6 +6,7 @@ ghost use Rattle.stick_grid.specs.Devices.{TransistorsAreChannels};
 ghost use Rattle.stick_grid.specs.Mirrors.{MirrorsAreModules};
 ghost use Rattle.stick_grid.specs.Names.{NamesAreNets, PiecesHaveSquares, PlansHavePaths};
 ghost use Rattle.stick_grid.specs.Pieces.{PlansHavePieces, SquaresAreNets};
+ghost use Rattle.stick_grid.specs.PlacedModules.{CoveringsAreModules};
 ghost use Rattle.stick_grid.specs.Transistors.{ChannelsAreOfTiles, TransistorsArePlaced};
 ghost use Rattle.stick_grid.specs.Windows.{PlansAreTilings, SameTilesAgree, WindowsKeepPlans};
 
@@ -63,3 +64,8 @@ pub fn mirrors_are_modules()
 {
     transposes_are_mirrored();
 }
+
+/// Modules that cover a plan make it a module, whose devices are theirs.
+pub fn coverings_are_modules()
+    ensures { CoveringsAreModules }
+{}
