@@ -19,7 +19,7 @@ use Rattle.gate_matrix.specs.declared.row.RowKind.{RowKind}
 use Rattle.gate_matrix.specs.declared.row.RowKind.TheVariants.{Start, Through, Stop, Vdd, Load, Out, Top, Middle, Bottom}
 use Rattle.gate_matrix.specs.Rows.{MatrixRow}
 use Rattle.gate_matrix.specs.Cells.{cell, is_gated, load_cell, gate_cell, wire_cell, device_cell}
-use Rattle.gate_matrix.specs.Modules.{net_among}
+use Rattle.gate_matrix.specs.MatrixNets.{net_among}
 
 -- ---- lists, entry by entry
 

@@ -11,9 +11,9 @@ use Rattle.gate_matrix.specs.declared.column.Column.{Column}
 use Rattle.gate_matrix.specs.declared.column.Column.TheVariants as columns
 use Rattle.gate_matrix.specs.declared.row.RowKind.{RowKind}
 use Rattle.gate_matrix.specs.declared.row.RowKind.TheVariants.{Start, Through, Stop, Vdd, Load, Out, Top, Middle, Bottom}
-use Rattle.gate_matrix.specs.Rows.{MatrixRow}
+use Rattle.gate_matrix.specs.Rows.{MatrixRow, has_metal}
 use Rattle.gate_matrix.specs.Cells.{cell, is_gated, load_cell, gate_cell, wire_cell, metal_cell, metal_above, metal_below, device_cell}
-use Rattle.gate_matrix.proofs.Ports.{port, has_metal}
+use Rattle.gate_matrix.proofs.Ports.{port}
 use Rattle.gate_matrix.proofs.TileNets.{net, all_nets, passes}
 
 -- the number of the poly of a net in its column: under a cut where the metal of the row is the net's

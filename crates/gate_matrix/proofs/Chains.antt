@@ -8,8 +8,8 @@ use Rattle.nor_net.specs.Evaluation.{is_output}
 use Rattle.nor_net.specs.Part.{PartTables}
 use Rattle.nor_net.specs.declared.gate.Transfer.{Transfer}
 use Rattle.gate_matrix.specs.Rows.{MatrixRow, blank_row, load_rows, device_rows, gate_rows}
-use Rattle.gate_matrix.specs.Matrices.{is_vdd, is_load, is_stop, gated_south, LeadsOn}
-use Rattle.gate_matrix.proofs.Stacks.{Stacked, is_middle}
+use Rattle.gate_matrix.specs.Matrices.{is_vdd, is_load, is_stop, is_middle, gated_south, LeadsOn}
+use Rattle.gate_matrix.proofs.Stacks.{Stacked}
 use Rattle.gate_matrix.specs.PartRows.{has_load, rows_of_gate, rows_of_gates, rows_of_load, rows_of_transfer, rows_of_part, height_of_gate, height_of_gates, height_of_load, height_of_part}
 
 -- each row leads on to the next, behind the first
@@ -44,7 +44,7 @@ last_on row (next ∷ rows) more = last_on next rows more
 -- the last row, above rows that are blank
 end_stacked : (row : MatrixRow) → Ends row → Stacked row blank_row
 end_stacked row ends = record {
-  leads = record { devices = ends.devices; load = ends.no_vdd; out = ends.no_load; begun = refl; ended = ends.no_stop };
+  leads = record { follows = record { devices = ends.devices; load = ends.no_vdd; out = ends.no_load }; begun = refl; ended = ends.no_stop };
   middle = ends.no_middle;
 }
 
@@ -82,7 +82,7 @@ run_blank (suc n) row ends =
     let rest = run_blank n blank_row (record { devices = refl; no_vdd = refl; no_load = refl; no_stop = refl; no_middle = refl }) in (
       (
         record {
-          leads = record { devices = ends.devices; load = ends.no_vdd; out = ends.no_load; begun = refl; ended = ends.no_stop };
+          leads = record { follows = record { devices = ends.devices; load = ends.no_vdd; out = ends.no_load }; begun = refl; ended = ends.no_stop };
           middle =
               ends.no_middle;
         },
@@ -95,13 +95,13 @@ run_load : (vdd net : ℕ) → IsRun (load_rows vdd net [])
 run_load vdd net row ends = (
   (
     record {
-      leads = record { devices = ends.devices; load = ends.no_vdd; out = ends.no_load; begun = refl; ended = ends.no_stop };
+      leads = record { follows = record { devices = ends.devices; load = ends.no_vdd; out = ends.no_load }; begun = refl; ended = ends.no_stop };
       middle =
           ends.no_middle;
     },
     (
-      record { leads = record { devices = refl; load = refl; out = refl; begun = refl; ended = refl }; middle = refl },
-      (record { leads = record { devices = refl; load = refl; out = refl; begun = refl; ended = refl }; middle = refl }, tt),
+      record { leads = record { follows = record { devices = refl; load = refl; out = refl }; begun = refl; ended = refl }; middle = refl },
+      (record { leads = record { follows = record { devices = refl; load = refl; out = refl }; begun = refl; ended = refl }; middle = refl }, tt),
     ),
   ),
   record { devices = refl; no_vdd = refl; no_load = refl; no_stop = refl; no_middle = refl },
@@ -111,17 +111,17 @@ run_gate : (vdd gnd out : ℕ) (inputs : List ℕ) → IsRun (gate_rows vdd gnd 
 run_gate vdd gnd out inputs row ends = (
   (
     record {
-      leads = record { devices = ends.devices; load = ends.no_vdd; out = ends.no_load; begun = refl; ended = ends.no_stop };
+      leads = record { follows = record { devices = ends.devices; load = ends.no_vdd; out = ends.no_load }; begun = refl; ended = ends.no_stop };
       middle =
           ends.no_middle;
     },
     (
-      record { leads = record { devices = refl; load = refl; out = refl; begun = refl; ended = refl }; middle = refl },
+      record { leads = record { follows = record { devices = refl; load = refl; out = refl }; begun = refl; ended = refl }; middle = refl },
       (
-        record { leads = record { devices = refl; load = refl; out = refl; begun = refl; ended = refl }; middle = refl },
+        record { leads = record { follows = record { devices = refl; load = refl; out = refl }; begun = refl; ended = refl }; middle = refl },
         (
-          record { leads = record { devices = refl; load = refl; out = refl; begun = refl; ended = refl }; middle = refl },
-          (record { leads = record { devices = refl; load = refl; out = refl; begun = refl; ended = refl }; middle = refl }, tt),
+          record { leads = record { follows = record { devices = refl; load = refl; out = refl }; begun = refl; ended = refl }; middle = refl },
+          (record { leads = record { follows = record { devices = refl; load = refl; out = refl }; begun = refl; ended = refl }; middle = refl }, tt),
         ),
       ),
     ),
@@ -133,13 +133,13 @@ run_devices : (top bottom : ℕ) (gated : List ℕ) → IsRun (device_rows top g
 run_devices top bottom gated row ends = (
   (
     record {
-      leads = record { devices = ends.devices; load = ends.no_vdd; out = ends.no_load; begun = refl; ended = ends.no_stop };
+      leads = record { follows = record { devices = ends.devices; load = ends.no_vdd; out = ends.no_load }; begun = refl; ended = ends.no_stop };
       middle =
           ends.no_middle;
     },
     (
-      record { leads = record { devices = refl; load = refl; out = refl; begun = refl; ended = refl }; middle = refl },
-      (record { leads = record { devices = refl; load = refl; out = refl; begun = refl; ended = refl }; middle = refl }, tt),
+      record { leads = record { follows = record { devices = refl; load = refl; out = refl }; begun = refl; ended = refl }; middle = refl },
+      (record { leads = record { follows = record { devices = refl; load = refl; out = refl }; begun = refl; ended = refl }; middle = refl }, tt),
     ),
   ),
   record { devices = refl; no_vdd = refl; no_load = refl; no_stop = refl; no_middle = refl },

@@ -16,6 +16,7 @@ pub mod CellDevices
 pub mod RowDevices
 pub mod Outlets
 pub mod MatrixDevices
+pub mod MatrixModules
 pub mod PartRowsFine
 pub mod PartDevices
 pub mod PartLoads

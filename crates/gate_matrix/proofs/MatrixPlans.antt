@@ -68,15 +68,16 @@ and_none false = refl
 module _ (upper lower : MatrixRow) (leads : LeadsOn upper lower) (last : Bool) where
   south_meets : (k : Column) → port (cell upper k last) South ≡ port (cell lower k last) North
   south_meets columns.Load =
-      ports.load_south upper.kind ∙ rw (leads.load, leads.out) refl ∙ sym (ports.load_north lower.kind)
-  south_meets columns.Gate = ports.gate_south upper.kind ∙ ap (narrow Poly) leads.out ∙ sym (ports.gate_north lower.kind)
+      ports.load_south upper.kind ∙ rw (leads.follows.load, leads.follows.out) refl ∙ sym (ports.load_north lower.kind)
+  south_meets columns.Gate = ports.gate_south upper.kind ∙ ap (narrow Poly) leads.follows.out ∙ sym (ports.gate_north lower.kind)
   south_meets (columns.Wire i) =
       ports.wire_south upper.kind (upper.metal == i) (is_gated upper.gated i)
       ∙ ap (λ t. narrow Poly (not t)) (leads.ended ∙ sym leads.begun)
       ∙ sym (ports.wire_north lower.kind (lower.metal == i) (is_gated lower.gated i))
   south_meets (columns.Device i) =
       ports.device_south upper.kind (is_gated upper.gated i) last upper.onward
-      ∙ ap (narrow Diffusion) (south_gated upper.kind upper.gated i ∙ ap (λ gated. is_gated gated i) leads.devices ∙ sym (north_gated lower.kind lower.gated i))
+      ∙ ap (narrow Diffusion) (south_gated upper.kind upper.gated i ∙ ap (λ gated. is_gated gated i) leads.follows.devices
+      ∙ sym (north_gated lower.kind lower.gated i))
       ∙ sym (ports.device_north lower.kind (is_gated lower.gated i) last lower.onward)
   south_meets columns.Free =
       ports.device_south upper.kind false last upper.onward
@@ -93,8 +94,11 @@ matrices_are_plans named matrix is = record {
   eastward = λ row col is_row is_col.
       let r = get_or matrix.rows row blank_row in
       let inner : (col + 1 == matrix.cols) ≡ false = ne_eqb (col + 1) matrix.cols (λ e. omega arith) in
-      subst (λ t. port (cell r (column_of matrix.at col) t) East ≡ port (cell r (column_of matrix.at (col + 1)) (col + 1 + 1 == matrix.cols)) West) (sym inner)
-      (east_meets r (col + 1 + 1 == matrix.cols) (column_of matrix.at col) (column_of matrix.at (col + 1)) (beside matrix.at matrix.cols col is.columns));
+      subst (λ t. port (cell r (column_of matrix.at col) t) East ≡ port (cell r (column_of matrix.at (col + 1)) (col + 1 + 1 == matrix.cols)) West)
+      (sym inner)
+      (east_meets r (col + 1 + 1 == matrix.cols) (column_of matrix.at col) (column_of matrix.at (col + 1))
+      (beside matrix.at matrix.cols col is.columns));
   southward = λ row col is_row is_col.
-      south_meets (get_or matrix.rows row blank_row) (get_or matrix.rows (row + 1) blank_row) (is.rows row is_row) (col + 1 == matrix.cols) (column_of matrix.at col);
+      south_meets (get_or matrix.rows row blank_row) (get_or matrix.rows (row + 1) blank_row) (is.rows row is_row) (col + 1 == matrix.cols)
+      (column_of matrix.at col);
 }

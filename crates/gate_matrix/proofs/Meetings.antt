@@ -1,6 +1,5 @@
 -- Nets of tiles that meet have one name.
 use Rattle.std.proofs.Common.{◌≡◌, ℕ, ◌==◌, ◌⊎◌, inl, inr, Bool, true, false, ◌&&◌, ◌||◌, cond, if◌then◌else◌, Some, None, refl, sym, ◌∙◌, ap, subst}
-use Rattle.std.proofs.lemmas.Bool.{eqb-true}
 use Rattle.geom.specs.declared.layer.Layer.{Layer}
 use Rattle.geom.specs.declared.layer.Layer.TheVariants.{Diffusion, Poly, Metal, Cut, Implant}
 use Rattle.micro_tiles.specs.declared.side.Port.{Port}
@@ -12,17 +11,17 @@ use Rattle.gate_matrix.specs.declared.column.Column.{Column}
 use Rattle.gate_matrix.specs.declared.column.Column.TheVariants as columns
 use Rattle.gate_matrix.specs.declared.row.RowKind.{RowKind}
 use Rattle.gate_matrix.specs.declared.row.RowKind.TheVariants.{Start, Through, Stop, Vdd, Load, Out, Top, Middle, Bottom}
-use Rattle.gate_matrix.specs.Rows.{MatrixRow}
+use Rattle.gate_matrix.specs.Rows.{MatrixRow, has_metal}
 use Rattle.gate_matrix.specs.Cells.{cell, is_gated, load_cell, gate_cell, wire_cell, device_cell}
 use Rattle.gate_matrix.specs.Matrices.{is_vdd, is_load}
-use Rattle.gate_matrix.specs.Modules.{net_among}
+use Rattle.gate_matrix.specs.MatrixNets.{net_among, IsAbove}
 use Rattle.gate_matrix.proofs.Ports as ports
-use Rattle.gate_matrix.proofs.Ports.{port, has_metal, branch, goes_south}
+use Rattle.gate_matrix.proofs.Ports.{port, branch, goes_south}
 use Rattle.gate_matrix.proofs.ColumnFacts.{Beside}
 use Rattle.gate_matrix.proofs.ColumnFacts.Beside.{loads, gate_wire, gate_free, wire_device, device_wire, device_free, free_wire, free_free}
 use Rattle.gate_matrix.proofs.TileNets.{net, metal_net}
 use Rattle.gate_matrix.proofs.CellNets.{wire_net}
-use Rattle.gate_matrix.proofs.Stacks.{Stacked, from_vdd, from_load, under_vdd, under_load, under_middle, gated_below_middle, under_top}
+use Rattle.gate_matrix.proofs.Stacks.{from_vdd, from_load, under_vdd, under_load, under_middle, gated_below_middle, under_top}
 
 -- ---- what is carried
 
@@ -79,21 +78,16 @@ wire_number Middle meets false side = refl
 wire_number Bottom true gated side = refl
 wire_number Bottom false gated side = refl
 
--- The poly of a net's column has the net's name.
-pub wire_name : (kind : RowKind) (i above here below : ℕ) → net_among (columns.Wire i) above here below (wire_net kind (here == i)) ≡ i
-wire_name kind i above here below = by_test (here == i) refl
+-- The poly of a net's column has the net's name, where metal that meets it is the net's.
+pub wire_name : (kind : RowKind) (i : ℕ) (meets : Bool) (above here below : ℕ) → (meets ≡ true → has_metal kind ≡ true → here ≡ i)
+    → net_among (columns.Wire i) above here below (wire_net kind meets) ≡ i
+wire_name kind i meets above here below h = by_tests meets (has_metal kind) h
   where
-    by_test : (t : Bool) → (here == i) ≡ t → net_among (columns.Wire i) above here below (wire_net kind t) ≡ i
-    by_test false e = by_kind (has_metal kind)
-      where
-        by_kind : (m : Bool) → net_among (columns.Wire i) above here below (if m && false then 0 else 1) ≡ i
-        by_kind true = refl
-        by_kind false = refl
-    by_test true e = by_kind (has_metal kind)
-      where
-        by_kind : (m : Bool) → net_among (columns.Wire i) above here below (if m && true then 0 else 1) ≡ i
-        by_kind true = eqb-true here i e
-        by_kind false = refl
+    by_tests : (t m : Bool) → (t ≡ true → m ≡ true → here ≡ i) → net_among (columns.Wire i) above here below (if m && t then 0 else 1) ≡ i
+    by_tests true true same = same refl refl
+    by_tests true false same = refl
+    by_tests false true same = refl
+    by_tests false false same = refl
 
 module _ (last onward : Bool) where
   pub pass_gate : net (device_cell Middle true last onward) West Poly ≡ 1
@@ -206,25 +200,24 @@ module _ (row : MatrixRow) (last : Bool) (above here below : ℕ) where
 
 -- ---- one above another
 
-module _ (upper lower : MatrixRow) (is : Stacked upper lower) (last : Bool) (above below : ℕ) where
+module _ (upper lower : MatrixRow) (is : IsAbove upper lower) (last : Bool) (above high low below : ℕ) where
   abbrev agree_south : Column → Layer → Type 0
-  agree_south k layer = name_at upper k last South layer above upper.metal lower.metal ≡ name_at lower k last North layer upper.metal lower.metal
-      below
+  agree_south k layer = name_at upper k last South layer above high low ≡ name_at lower k last North layer high low below
 
   under_high : (u l : RowKind) → u ≡ Vdd → l ≡ Load → (layer : Layer) → layer ≡ Diffusion
-      → net_among columns.Load above upper.metal lower.metal (net (load_cell u) South layer) ≡ net_among columns.Load upper.metal lower.metal below
+      → net_among columns.Load above high low (net (load_cell u) South layer) ≡ net_among columns.Load high low below
       (net (load_cell l) North layer)
   unfolding design_of
   under_high u l e f layer g = rw (e, f, g) refl
 
   under_pulled : (u l : RowKind) → u ≡ Load → l ≡ Out → (layer : Layer) → layer ≡ Diffusion
-      → net_among columns.Load above upper.metal lower.metal (net (load_cell u) South layer) ≡ net_among columns.Load upper.metal lower.metal below
+      → net_among columns.Load above high low (net (load_cell u) South layer) ≡ net_among columns.Load high low below
       (net (load_cell l) North layer)
   unfolding design_of
   under_pulled u l e f layer g = rw (e, f, g) refl
 
   under_corner : (u l : RowKind) → u ≡ Load → l ≡ Out → (layer : Layer) → layer ≡ Poly
-      → net_among columns.Gate above upper.metal lower.metal (net (gate_cell u) South layer) ≡ net_among columns.Gate upper.metal lower.metal below
+      → net_among columns.Gate above high low (net (gate_cell u) South layer) ≡ net_among columns.Gate high low below
       (net (gate_cell l) North layer)
   unfolding design_of
   under_corner u l e f layer g = rw (e, f, g) refl
@@ -232,8 +225,8 @@ module _ (upper lower : MatrixRow) (is : Stacked upper lower) (last : Bool) (abo
   -- the diffusion of a net's devices, at metal above and below
   abbrev device_names : ℕ → RowKind → Bool → RowKind → Bool → Layer → Type 0
   device_names i u ug l lg layer =
-      net_among (columns.Device i) above upper.metal lower.metal (net (device_cell u ug last upper.onward) South layer)
-      ≡ net_among (columns.Device i) upper.metal lower.metal below (net (device_cell l lg last lower.onward) North layer)
+      net_among (columns.Device i) above high low (net (device_cell u ug last upper.onward) South layer)
+      ≡ net_among (columns.Device i) high low below (net (device_cell l lg last lower.onward) North layer)
 
   under_out : (i : ℕ) (u l : RowKind) (ug lg : Bool) (layer : Layer) → u ≡ Out → ug ≡ true → l ≡ Middle → lg ≡ true → layer ≡ Diffusion
       → device_names i u ug l lg layer
@@ -254,28 +247,33 @@ module _ (upper lower : MatrixRow) (is : Stacked upper lower) (last : Bool) (abo
   and_false true h = cc
   and_false false h = cc
 
-  south_names : (k : Column) (layer : Layer) → (port (cell upper k last) South).other ≡ Some layer → agree_south k layer
-  south_names columns.Load layer h =
+  -- what the poly of a net's column meets in either row is the net's
+  abbrev Named : Column → Type 0
+  Named k = (i : ℕ) → k ≡ columns.Wire i
+      → ((upper.metal == i) ≡ true → has_metal upper.kind ≡ true → high ≡ i) × ((lower.metal == i) ≡ true → has_metal lower.kind ≡ true → low ≡ i)
+
+  south_names : (k : Column) → Named k → (layer : Layer) → (port (cell upper k last) South).other ≡ Some layer → agree_south k layer
+  south_names columns.Load named layer h =
       let at = ap (λ (q : Port). q.other) (sym (ports.load_south upper.kind)) ∙ h in
       let m = maybe (is_vdd upper.kind || is_load upper.kind) Diffusion layer at in
       elim (one_true (is_vdd upper.kind) (is_load upper.kind) m.0) [
         | inl e ↦ let u = from_vdd upper.kind e in under_high upper.kind lower.kind u (under_vdd upper lower is u) layer m.1
         | inr e ↦ let u = from_load upper.kind e in under_pulled upper.kind lower.kind u (under_load upper lower is u) layer m.1
       ]
-  south_names columns.Gate layer h =
+  south_names columns.Gate named layer h =
       let at = ap (λ (q : Port). q.other) (sym (ports.gate_south upper.kind)) ∙ h in
       let m = maybe (is_load upper.kind) Poly layer at in
       let u = from_load upper.kind m.0 in
       under_corner upper.kind lower.kind u (under_load upper lower is u) layer m.1
-  south_names (columns.Wire i) layer h =
+  south_names (columns.Wire i) named layer h =
       let at = ap (λ (q : Port). q.other) (sym (ports.wire_south upper.kind (upper.metal == i) (is_gated upper.gated i))) ∙ h in
       let m = maybe _ Poly layer at in
       subst (agree_south (columns.Wire i)) (sym m.1)
-      (ap (net_among (columns.Wire i) above upper.metal lower.metal) (wire_number upper.kind (upper.metal == i) (is_gated upper.gated i) South)
-      ∙ wire_name upper.kind i above upper.metal lower.metal
-      ∙ sym (ap (net_among (columns.Wire i) upper.metal lower.metal below) (wire_number lower.kind (lower.metal == i) (is_gated lower.gated i) North)
-      ∙ wire_name lower.kind i upper.metal lower.metal below))
-  south_names (columns.Device i) layer h =
+      (ap (net_among (columns.Wire i) above high low) (wire_number upper.kind (upper.metal == i) (is_gated upper.gated i) South)
+      ∙ wire_name upper.kind i (upper.metal == i) above high low (named i refl).0
+      ∙ sym (ap (net_among (columns.Wire i) high low below) (wire_number lower.kind (lower.metal == i) (is_gated lower.gated i) North)
+      ∙ wire_name lower.kind i (lower.metal == i) high low below (named i refl).1))
+  south_names (columns.Device i) named layer h =
       let at = ap (λ (q : Port). q.other) (sym (ports.device_south upper.kind (is_gated upper.gated i) last upper.onward)) ∙ h in
       let m = maybe (goes_south upper.kind && is_gated upper.gated i) Diffusion layer at in
       let b = both_true (goes_south upper.kind) (is_gated upper.gated i) m.0 in
@@ -289,7 +287,7 @@ module _ (upper lower : MatrixRow) (is : Stacked upper lower) (last : Bool) (abo
             ]
         | inr e ↦ under_middles i upper.kind lower.kind _ _ layer e g (under_middle upper lower is e) (gated_below_middle upper lower is i e g) m.1
       ]
-  south_names columns.Free layer h =
+  south_names columns.Free named layer h =
       let at = ap (λ (q : Port). q.other) (sym (ports.device_south upper.kind false last upper.onward)) ∙ h in
       let m = maybe (goes_south upper.kind && false) Diffusion layer at in
       absurd (and_false (goes_south upper.kind) m.0)
@@ -302,9 +300,9 @@ module _ (upper lower : MatrixRow) (is : Stacked upper lower) (last : Bool) (abo
   no_metal columns.Free = ap (λ (q : Port). q.metal) (ports.device_south upper.kind false last upper.onward)
 
   -- whatever is carried
-  pub southward : (k : Column) (layer : Layer) → Carries (port (cell upper k last) South) layer → agree_south k layer
-  southward k Metal h = let none = no_metal k in let some : (port (cell upper k last) South).metal ≡ true = h in absurd (cc)
-  southward k Diffusion h = south_names k Diffusion h
-  southward k Poly h = south_names k Poly h
-  southward k Cut h = south_names k Cut h
-  southward k Implant h = south_names k Implant h
+  pub southward : (k : Column) → Named k → (layer : Layer) → Carries (port (cell upper k last) South) layer → agree_south k layer
+  southward k named Metal h = let none = no_metal k in let some : (port (cell upper k last) South).metal ≡ true = h in absurd (cc)
+  southward k named Diffusion h = south_names k named Diffusion h
+  southward k named Poly h = south_names k named Poly h
+  southward k named Cut h = south_names k named Cut h
+  southward k named Implant h = south_names k named Implant h

@@ -1,5 +1,6 @@
 -- The devices of a part's rows are those of the part.
-use Rattle.std.proofs.Common.{◌≡◌, ℕ, zero, suc, not, Bool, true, false, if◌then◌else◌, List, [], ◌∷◌, ◌++◌, map, replicate, refl, sym, ◌∙◌, ap, append_assoc}
+use Rattle.std.proofs.Common.{◌≡◌, ℕ, zero, suc, not, Bool, true, false, if◌then◌else◌, List, [], ◌∷◌, ◌++◌, map, replicate, ◌+◌, ◌-◌, length, get_or, arith, refl, sym, ◌∙◌, ap, append_assoc}
+use Rattle.std.specs.List.{range_with_len}
 use Rattle.std.specs.Prelude.{flat_map}
 use Rattle.std.proofs.lemmas.List.{append-nil}
 use Rattle.switch_net.specs.declared.network.Device.{Device}
@@ -9,9 +10,37 @@ use Rattle.nor_net.specs.Netlist.{NorGate}
 use Rattle.nor_net.specs.Evaluation.{is_output}
 use Rattle.nor_net.specs.Part.{PartTables, clock_net, clocked_device}
 use Rattle.gate_matrix.specs.Rows.{MatrixRow, blank_row, load_rows, device_rows, gate_rows}
+use Rattle.gate_matrix.specs.Cells.{Matrix}
+use Rattle.gate_matrix.specs.MatrixNets.{row_at, passes_of, row_devices, devices_at}
+use Rattle.gate_matrix.specs.Modules.{metal_in}
 use Rattle.gate_matrix.specs.PartRows.{has_load, rows_of_gate, rows_of_gates, rows_of_load, rows_of_transfer, rows_of_part}
-use Rattle.gate_matrix.proofs.RowDevices.{passes_of}
-use Rattle.gate_matrix.proofs.MatrixDevices.{rows_devices}
+
+-- ---- the devices of rows, one after another
+
+-- the devices of rows below metal of this net
+abbrev pub rows_devices : ℕ → List MatrixRow → List Device
+rows_devices above [] = []
+rows_devices above (row ∷ rows) = row_devices row.kind row.gated above (get_or rows 0 blank_row).metal ++ rows_devices row.metal rows
+
+module _ (matrix : Matrix) where
+  abbrev nets : ℕ → ℕ
+  nets = metal_in matrix
+
+  pub as_rows : (a above : ℕ) (rows : List MatrixRow) → ((k : ℕ) → row_at matrix (a + k) ≡ get_or rows k blank_row) → nets (a - 1) ≡ above
+      → flat_map (devices_at matrix nets) (range_with_len a (length rows)) ≡ rows_devices above rows
+  as_rows a above [] each e = refl
+  as_rows a above (row ∷ rows) each e =
+      let zero_on : a ≡ a + 0 = omega arith in
+      let here : row_at matrix a ≡ row = ap (row_at matrix) zero_on ∙ each 0 in
+      let next : nets (a + 1) ≡ (get_or rows 0 blank_row).metal = ap (λ (x : MatrixRow). x.metal) (each 1) in
+      let back : a + 1 - 1 ≡ a = omega arith in
+      let rest = as_rows (a + 1) row.metal rows (λ k. ap (row_at matrix) (let s : a + 1 + k ≡ a + suc k = omega arith in s) ∙ each (suc k))
+      (ap nets back ∙ ap (λ (x : MatrixRow). x.metal) here) in
+      ap (λ (x : MatrixRow). row_devices x.kind x.gated (nets (a - 1)) (nets (a + 1)) ++ flat_map (devices_at matrix nets)
+      (range_with_len (a + 1) (length rows))) here
+      ∙ ap (λ (n : ℕ). row_devices row.kind row.gated n (nets (a + 1)) ++ flat_map (devices_at matrix nets) (range_with_len (a + 1) (length rows))) e
+      ∙ ap (λ (n : ℕ). row_devices row.kind row.gated above n ++ flat_map (devices_at matrix nets) (range_with_len (a + 1) (length rows))) next
+      ∙ ap (λ l. row_devices row.kind row.gated above (get_or rows 0 blank_row).metal ++ l) rest
 
 -- ---- rows that draw these devices, wherever they stand
 

@@ -1,5 +1,5 @@
 -- The rows of a part stand on its nets.
-use Rattle.std.proofs.Common.{◌≡◌, ℕ, ◌-◌, ◌<◌, ◌⊎◌, inl, inr, Bool, true, false, if◌then◌else◌, List, [], ◌∷◌, ◌++◌, length, replicate, All, refl, sym, subst, arith}
+use Rattle.std.proofs.Common.{◌≡◌, ℕ, ◌+◌, ◌-◌, ◌<◌, ◌⊎◌, inl, inr, Bool, true, false, if◌then◌else◌, List, [], ◌∷◌, ◌++◌, length, replicate, All, refl, sym, subst, arith}
 use Rattle.std.specs.Prelude.{flat_map}
 use Rattle.std.proofs.lemmas.List.Elements.{All-nil, All-cons, All-head, All-tail, All-append, All-replicate, All-get_or}
 use Rattle.rx_text.specs.declared.pad_name.Role.{Role}
@@ -10,13 +10,13 @@ use Rattle.nor_net.specs.Part.{PartTables, IsPart, IsPartGate, IsPartTransfer, c
 use Rattle.nor_net.specs.declared.gate.Transfer.{Transfer}
 use Rattle.gate_matrix.specs.declared.row.RowKind.{RowKind}
 use Rattle.gate_matrix.specs.declared.row.RowKind.TheVariants.{Vdd, Load, Out, Top, Middle, Bottom}
-use Rattle.gate_matrix.specs.Rows.{MatrixRow, blank_row, closed_row, load_rows, device_rows, gate_rows}
+use Rattle.gate_matrix.specs.Rows.{MatrixRow, has_metal, blank_row, closed_row, load_rows, device_rows, gate_rows}
 use Rattle.gate_matrix.specs.PartRows.{has_load, rows_of_gate, rows_of_gates, rows_of_load, rows_of_transfer, rows_of_part, height_of_part}
 use Rattle.gate_matrix.specs.Drawn.{FitsPart, part_matrix}
-use Rattle.gate_matrix.proofs.Ports.{has_metal}
-use Rattle.gate_matrix.proofs.Stacks.{IsStack, row_at}
+use Rattle.gate_matrix.proofs.Stacks.{Stacked}
+use Rattle.gate_matrix.specs.MatrixNets.{row_at, IsAbove, AreGates, AreMatrixNets}
+use Rattle.gate_matrix.specs.Modules.{metal_in}
 use Rattle.gate_matrix.proofs.Chains.{long_rows, rows_stacked, first_stacked}
-use Rattle.gate_matrix.proofs.RowDevices.{AreGates}
 
 -- The metal is a net's, and the supply's above a load; the nets that gate devices differ; nothing goes on to the east.
 pub record IsFine (nets vdd : ℕ) (row : MatrixRow) : Type 0 where
@@ -141,11 +141,39 @@ module _ (part : PartTables) (is : IsPart part) where
     row_fine r below = All-get_or (IsFine part.nets part.vdd) (part_matrix part at rows cols).rows r blank_row below
         (fine_part (rows - height_of_part part))
 
-    pub is_stack : IsStack (part_matrix part at rows cols)
-    is_stack = record {
-      columns = fits.columns;
-      some_row = (let long = long_rows part rows fits.rows_fit in let some = fits.some_row in omega arith);
-      metals = λ r below m. (let h = (row_fine r below).metal m in let e = fits.wires in omega arith);
-      north = first_stacked part (rows - height_of_part part);
-      south = rows_stacked part (rows - height_of_part part);
-    }
+    above : (upper lower : MatrixRow) → Stacked upper lower → IsAbove upper lower
+    above upper lower h = record { follows = h.leads.follows; bottom = h.middle }
+
+    abbrev spare : ℕ
+    spare = rows - height_of_part part
+
+    -- The metal of each row is a net's of the part, in its column.
+    pub part_nets : AreMatrixNets (part_matrix part at rows cols) (metal_in (part_matrix part at rows cols)) part.nets part.vdd
+    part_nets =
+        let wires = fits.wires in
+        let some_net = vdd_below in
+        let few : (i : ℕ) → i < part.nets → i < length at = λ i below. omega arith in
+        record {
+          columns = fits.columns;
+          some_row = (let long = long_rows part rows fits.rows_fit in let some = fits.some_row in omega arith);
+          some_wire = omega arith;
+          wires_fit = omega arith;
+          north = above blank_row (row_at (part_matrix part at rows cols) 0) (first_stacked part spare);
+          south = λ r below.
+              above (row_at (part_matrix part at rows cols) r) (row_at (part_matrix part at rows cols) (r + 1)) (rows_stacked part spare r below);
+          begun = λ r below. (rows_stacked part spare r (omega arith)).leads.begun;
+          ended = λ r below. (rows_stacked part spare r (omega arith)).leads.ended;
+          metal = λ r below m. inl (record {
+            is = refl;
+            below =
+                few ((row_at (part_matrix part at rows cols) r).metal) ((row_fine r below).metal m);
+          });
+          opener = λ net. 0;
+          opened = λ net from below. absurd (omega arith);
+          opens = λ r below m from. (let inside = few ((row_at (part_matrix part at rows cols) r).metal) ((row_fine r below).metal m) in
+              absurd (omega arith));
+          supply = λ r below kind. (row_fine r below).supply kind;
+          gates = λ r below kind. subst (λ (n : ℕ). AreGates n (row_at (part_matrix part at rows cols) r).gated) (sym fits.wires)
+              (row_fine r below).gates;
+          east = λ r below m onward. (let closed = (row_fine r below).closed in absurd (cc));
+        }

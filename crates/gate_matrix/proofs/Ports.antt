@@ -10,19 +10,12 @@ use Rattle.micro_tiles.specs.Basics.{number_named}
 use Rattle.micro_tiles.specs.Table.{design_of, port_at}
 use Rattle.gate_matrix.specs.declared.row.RowKind.{RowKind}
 use Rattle.gate_matrix.specs.declared.row.RowKind.TheVariants.{Start, Through, Stop, Vdd, Load, Out, Top, Middle, Bottom}
+use Rattle.gate_matrix.specs.Rows.{has_metal}
 use Rattle.gate_matrix.specs.Cells.{load_cell, gate_cell, wire_cell, device_cell}
 use Rattle.gate_matrix.specs.Matrices.{is_vdd, is_load, is_out, is_start, is_stop}
 
 abbrev pub port : Basic → Side → Port
 port tile side = port_at (number_named tile) side
-
--- metal, or not
-abbrev pub has_metal : RowKind → Bool
-has_metal Vdd = true
-has_metal Out = true
-has_metal Top = true
-has_metal Bottom = true
-has_metal _ = false
 
 -- the metal of a row and nothing else
 abbrev pub wide : RowKind → Port

@@ -1,5 +1,5 @@
 -- The devices of a row, in the order of columns, and up to that order.
-use Rattle.std.proofs.Common.{◌≡◌, ℕ, zero, suc, ◌+◌, ◌-◌, ◌<◌, ◌≤◌, ◌==◌, Bool, true, false, inl, inr, List, [], ◌∷◌, ◌++◌, map, length, All, IsPermutation, refl, sym, ◌∙◌, ap, subst, arith}
+use Rattle.std.proofs.Common.{◌≡◌, ℕ, zero, suc, ◌+◌, ◌-◌, ◌<◌, ◌≤◌, ◌==◌, Bool, true, false, inl, inr, List, [], ◌∷◌, ◌++◌, length, All, IsPermutation, refl, sym, ◌∙◌, ap, subst, arith}
 use Rattle.std.specs.Prelude.{flat_map, AllPairs, ◌≢◌}
 use Rattle.std.specs.List.{range_with_len}
 use Rattle.std.proofs.lemmas.Bool.{cases_eq, eq-eqb, ne_eqb}
@@ -14,6 +14,7 @@ use Rattle.gate_matrix.specs.declared.row.RowKind.{RowKind}
 use Rattle.gate_matrix.specs.declared.row.RowKind.TheVariants.{Start, Through, Stop, Vdd, Load, Out, Top, Middle, Bottom}
 use Rattle.gate_matrix.specs.Columns.{column_of, AreWires}
 use Rattle.gate_matrix.specs.Cells.{is_gated}
+use Rattle.gate_matrix.specs.MatrixNets.{passes_of, row_devices, AreGates}
 use Rattle.gate_matrix.proofs.ColumnsOfNets.{column_for, of_device, of_load, device_of}
 use Rattle.gate_matrix.proofs.CellDevices.{load_device, pass_device, cell_device}
 use Rattle.gate_matrix.proofs.FilledColumns.{within, room}
@@ -63,21 +64,6 @@ flat_permuted f g a (suc n) each =
     IsPermutation-append (f a) (g a) _ _ (each a (omega arith)) (flat_permuted f g (a + 1) n (λ k below. each k (omega arith)))
 
 -- ---- a row of devices
-
--- the devices that these nets gate
-abbrev pub passes_of : List ℕ → ℕ → ℕ → List Device
-passes_of gated above below = map (λ (i : ℕ). devices.Pass (at i) (at above) (at below)) gated
-
--- the devices of a row by its kind
-abbrev pub row_devices : RowKind → List ℕ → ℕ → ℕ → List Device
-row_devices Load gated above below = devices.Load (at below) ∷ []
-row_devices Middle gated above below = passes_of gated above below
-row_devices _ gated above below = []
-
--- The nets differ, and there are as many.
-pub record AreGates (nets : ℕ) (gated : List ℕ) : Type 0 where
-  pub below : All (λ i. i < nets) gated
-  pub distinct : AllPairs (λ i j. i ≢ j) gated
 
 not_among : (gated : List ℕ) (i : ℕ) → All (λ j. i ≢ j) gated → is_gated gated i ≡ false
 not_among [] i h = refl

@@ -1,37 +1,16 @@
 -- Rows one above another, of which nothing leads out but the poly of the nets.
-use Rattle.std.proofs.Common.{◌≡◌, ℕ, ◌+◌, ◌<◌, ◌≤◌, ◌⊎◌, inl, inr, Bool, true, false, List, length, get_or, refl, sym, ◌∙◌, ap}
+use Rattle.std.proofs.Common.{◌≡◌, ℕ, ◌⊎◌, inl, inr, true, false, List, refl, sym, ◌∙◌, ap}
 use Rattle.gate_matrix.specs.declared.row.RowKind.{RowKind}
-use Rattle.gate_matrix.specs.declared.row.RowKind.TheVariants.{Vdd, Load, Out, Top, Middle, Bottom}
-use Rattle.gate_matrix.specs.Rows.{MatrixRow, blank_row}
-use Rattle.gate_matrix.specs.Columns.{AreWires}
-use Rattle.gate_matrix.specs.Cells.{Matrix, is_gated}
-use Rattle.gate_matrix.specs.Matrices.{is_vdd, is_load, is_out, gated_south, gated_north, LeadsOn}
-use Rattle.gate_matrix.proofs.Ports.{has_metal}
-
-abbrev pub is_middle : RowKind → Bool
-is_middle Middle = true
-is_middle _ = false
-
-abbrev pub is_bottom : RowKind → Bool
-is_bottom Bottom = true
-is_bottom _ = false
+use Rattle.gate_matrix.specs.declared.row.RowKind.TheVariants.{Stop, Vdd, Load, Out, Top, Middle, Bottom}
+use Rattle.gate_matrix.specs.Rows.{MatrixRow}
+use Rattle.gate_matrix.specs.Cells.{is_gated}
+use Rattle.gate_matrix.specs.Matrices.{is_vdd, is_load, is_out, is_stop, is_middle, is_bottom, gated_south, gated_north, LeadsOn}
+use Rattle.gate_matrix.specs.MatrixNets.{IsAbove}
 
 -- One row leads on to the other, and a row of devices to its bottom.
 pub record Stacked (upper lower : MatrixRow) : Type 0 where
   pub leads : LeadsOn upper lower
   pub middle : is_middle upper.kind ≡ is_bottom lower.kind
-
-abbrev pub row_at : Matrix → ℕ → MatrixRow
-row_at matrix r = get_or matrix.rows r blank_row
-
--- The nets have their columns, and their numbers stand at the metal of rows. Each row leads on to the next, and beyond the first and
--- the last as if blank rows stood there.
-pub record IsStack (matrix : Matrix) : Type 0 where
-  pub columns : AreWires matrix.at matrix.cols
-  pub some_row : 1 ≤ length matrix.rows
-  pub metals : (r : ℕ) → r < length matrix.rows → has_metal (row_at matrix r).kind ≡ true → (row_at matrix r).metal < length matrix.at
-  pub north : Stacked blank_row (row_at matrix 0)
-  pub south : (r : ℕ) → r < length matrix.rows → Stacked (row_at matrix r) (row_at matrix (r + 1))
 
 -- ---- kinds by tests
 
@@ -46,6 +25,10 @@ from_load _ h = absurd (cc)
 pub from_out : (kind : RowKind) → is_out kind ≡ true → kind ≡ Out
 from_out Out h = refl
 from_out _ h = absurd (cc)
+
+pub from_stop : (kind : RowKind) → is_stop kind ≡ true → kind ≡ Stop
+from_stop Stop h = refl
+from_stop _ h = absurd (cc)
 
 pub from_middle : (kind : RowKind) → is_middle kind ≡ true → kind ≡ Middle
 from_middle Middle h = refl
@@ -70,34 +53,34 @@ below_tops Middle gated upper i e h b = (refl, ap (λ (l : List ℕ). is_gated l
 below_tops Bottom gated upper i e h b = absurd (cc)
 below_tops _ gated upper i e h b = let none = ap (λ (l : List ℕ). is_gated l i) (sym e) ∙ h in absurd (cc)
 
-module _ (upper lower : MatrixRow) (is : Stacked upper lower) where
+module _ (upper lower : MatrixRow) (is : IsAbove upper lower) where
   pub over_load : lower.kind ≡ Load → upper.kind ≡ Vdd
-  over_load e = from_vdd upper.kind (is.leads.load ∙ ap is_load e)
+  over_load e = from_vdd upper.kind (is.follows.load ∙ ap is_load e)
 
   pub under_vdd : upper.kind ≡ Vdd → lower.kind ≡ Load
-  under_vdd e = from_load lower.kind (sym is.leads.load ∙ ap is_vdd e)
+  under_vdd e = from_load lower.kind (sym is.follows.load ∙ ap is_vdd e)
 
   pub under_load : upper.kind ≡ Load → lower.kind ≡ Out
-  under_load e = from_out lower.kind (sym is.leads.out ∙ ap is_load e)
+  under_load e = from_out lower.kind (sym is.follows.out ∙ ap is_load e)
 
   pub under_middle : upper.kind ≡ Middle → lower.kind ≡ Bottom
-  under_middle e = from_bottom lower.kind (sym is.middle ∙ ap is_middle e)
+  under_middle e = from_bottom lower.kind (sym is.bottom ∙ ap is_middle e)
 
   pub gated_below_middle : (i : ℕ) → upper.kind ≡ Middle → is_gated upper.gated i ≡ true → is_gated lower.gated i ≡ true
   gated_below_middle i e h =
       let down = under_middle e in
       let same : upper.gated ≡ lower.gated =
-      ap (λ (k : RowKind). gated_south k upper.gated) (sym e) ∙ is.leads.devices ∙ ap (λ (k : RowKind). gated_north k lower.gated) down in
+      ap (λ (k : RowKind). gated_south k upper.gated) (sym e) ∙ is.follows.devices ∙ ap (λ (k : RowKind). gated_north k lower.gated) down in
       ap (λ (l : List ℕ). is_gated l i) (sym same) ∙ h
 
   pub over_middle : (i : ℕ) → lower.kind ≡ Middle → is_gated lower.gated i ≡ true
       → ((upper.kind ≡ Out) ⊎ (upper.kind ≡ Top)) × (is_gated upper.gated i ≡ true)
-  over_middle i e h = above_devices upper.kind upper.gated lower.gated i (is.leads.devices
-      ∙ ap (λ (k : RowKind). gated_north k lower.gated) e) h (is.middle ∙ ap is_bottom e)
+  over_middle i e h = above_devices upper.kind upper.gated lower.gated i (is.follows.devices
+      ∙ ap (λ (k : RowKind). gated_north k lower.gated) e) h (is.bottom ∙ ap is_bottom e)
 
   pub under_top : (i : ℕ) → ((upper.kind ≡ Out) ⊎ (upper.kind ≡ Top)) → is_gated upper.gated i ≡ true
       → (lower.kind ≡ Middle) × (is_gated lower.gated i ≡ true)
   under_top i (inl e) h = below_tops lower.kind lower.gated upper.gated i (ap (λ (k : RowKind). gated_south k upper.gated) (sym e)
-      ∙ is.leads.devices) h (sym is.middle ∙ ap is_middle e)
+      ∙ is.follows.devices) h (sym is.bottom ∙ ap is_middle e)
   under_top i (inr e) h = below_tops lower.kind lower.gated upper.gated i (ap (λ (k : RowKind). gated_south k upper.gated) (sym e)
-      ∙ is.leads.devices) h (sym is.middle ∙ ap is_middle e)
+      ∙ is.follows.devices) h (sym is.bottom ∙ ap is_middle e)

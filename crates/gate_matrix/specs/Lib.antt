@@ -5,4 +5,5 @@ pub mod Cells
 pub mod Matrices
 pub mod PartRows
 pub mod Drawn
+pub mod MatrixNets
 pub mod Modules

@@ -28,6 +28,14 @@ abbrev pub is_stop : RowKind → Bool
 is_stop Stop = true
 is_stop _ = false
 
+abbrev pub is_middle : RowKind → Bool
+is_middle Middle = true
+is_middle _ = false
+
+abbrev pub is_bottom : RowKind → Bool
+is_bottom Bottom = true
+is_bottom _ = false
+
 -- the nets whose devices the row leads on to the south, or to the north
 abbrev pub gated_south : RowKind → List ℕ → List ℕ
 gated_south Out gated = gated
@@ -40,11 +48,15 @@ gated_north Middle gated = gated
 gated_north Bottom gated = gated
 gated_north _ gated = []
 
--- What leaves the upper row to the south enters the lower one from the north: devices, loads, and the poly of the nets.
-pub record LeadsOn (upper lower : MatrixRow) : Type 0 where
+-- What leaves the upper row to the south but the poly of the nets enters the lower one from the north: devices and loads.
+pub record Follows (upper lower : MatrixRow) : Type 0 where
   pub devices : gated_south upper.kind upper.gated ≡ gated_north lower.kind lower.gated
   pub load : is_vdd upper.kind ≡ is_load lower.kind
   pub out : is_load upper.kind ≡ is_out lower.kind
+
+-- So does the poly of the nets.
+pub record LeadsOn (upper lower : MatrixRow) : Type 0 where
+  pub follows : Follows upper lower
   pub begun : is_start lower.kind ≡ false
   pub ended : is_stop upper.kind ≡ false
 

@@ -1,5 +1,5 @@
 -- Rows of a gate matrix, and the groups of rows of gates, loads and transfers.
-use Rattle.std.specs.Prelude.{ℕ, Bool, false, List, [], ◌∷◌, ◌++◌}
+use Rattle.std.specs.Prelude.{ℕ, Bool, true, false, List, [], ◌∷◌, ◌++◌}
 use Rattle.gate_matrix.specs.declared.row.RowKind.{RowKind}
 use Rattle.gate_matrix.specs.declared.row.RowKind.TheVariants.{Through, Vdd, Load, Out, Top, Middle, Bottom}
 
@@ -30,3 +30,11 @@ device_rows top gated bottom = closed_row Top top gated ∷ closed_row Middle 0 
 -- a gate with its load
 abbrev pub gate_rows : ℕ → ℕ → ℕ → List ℕ → List MatrixRow
 gate_rows vdd gnd out inputs = load_rows vdd out inputs ++ closed_row Middle 0 inputs ∷ closed_row Bottom gnd inputs ∷ []
+
+-- rows of this kind have metal
+abbrev pub has_metal : RowKind → Bool
+has_metal Vdd = true
+has_metal Out = true
+has_metal Top = true
+has_metal Bottom = true
+has_metal _ = false

@@ -1,6 +1,7 @@
 //! What gate matrices are. Each law is the contract of a function that runs nothing.
 
 ghost use Rattle.gate_matrix.specs.Matrices.{MatricesArePlans};
+ghost use Rattle.gate_matrix.specs.MatrixNets.{MatricesAreModules};
 ghost use Rattle.gate_matrix.specs.Modules.{PartsAreModules};
 
 use micro_tiles::laws::basic_tiles_are_named;
@@ -13,11 +14,19 @@ pub fn matrices_are_plans()
     basic_tiles_are_named();
 }
 
+/// Such a matrix whose rows have their nets is a module: each net of its tiles is joined with all that has its name, its devices are
+/// those between its rows, and the poly of its nets and of rows that go on is all that leads out.
+pub fn matrices_are_modules()
+    ensures { MatricesAreModules }
+{
+    matrices_are_plans();
+    names_are_nets();
+}
+
 /// The tiles of a part make its network: each of their nets is a net of the part, joined with all that has its name, the devices
 /// are the part's, and each net's poly leads out in its column, to the north and to the south.
 pub fn parts_are_modules()
     ensures { PartsAreModules }
 {
-    matrices_are_plans();
-    names_are_nets();
+    matrices_are_modules();
 }
