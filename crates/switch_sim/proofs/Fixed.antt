@@ -9,7 +9,7 @@ use Rattle.std.specs.List.{AllByRecursion, AllPairs}
 use Rattle.switch_net.specs.Validity.{AreDistinct}
 use Rattle.switch_net.specs.Settling.{pad_level, fixed_level}
 use Rattle.switch_net.specs.declared.network.Pad.{Pad}
-use Rattle.switch_sim.specs.Marking.{fixed_at}
+use Rattle.switch_sim.specs.Nets.{fixed_at}
 
 -- the level by one more pad, whose net none of those before has
 more_pad : (ps : List Pad) (p : Pad) (drives : List Bool) (net : ℕ) → length ps < length drives → AllByRecursion (λ q. q.net.0 ≡ p.net.0 → ⊥) ps

@@ -1,12 +1,7 @@
-pub mod Gains
-pub mod Marked
-pub mod Spreads
 pub mod WaitingNets
 pub mod Chains
+pub mod GateChains
 pub mod Fixed
-pub mod Pulled
-pub mod Updated
-pub mod Iterates
 pub mod Cuts
 pub mod LineFaults
 pub mod TextLines
@@ -15,3 +10,11 @@ pub mod Runs
 pub mod Faultless
 pub mod OneTrace
 pub mod OneRun
+pub mod Grouping
+pub mod RightlyTold
+pub mod Sweeping
+pub mod DueNets
+pub mod Handled
+pub mod Settles
+pub mod Naming
+pub mod Numbered

@@ -6,9 +6,12 @@ pub mod TraceLines
 pub mod TraceLaws
 -- Definitions that serve private contracts alone:
 pub mod TraceReading
-pub mod Marking
 pub mod Waiting
 pub mod Incidence
-pub mod Spreading
-pub mod Updating
+pub mod Gating
+pub mod Naming
+pub mod Nets
+pub mod Grouping
+pub mod Sweeping
+pub mod DueNets
 pub mod Simulating

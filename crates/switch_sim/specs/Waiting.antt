@@ -1,10 +1,14 @@
 -- Nets that wait for their devices to be looked at.
-use Rattle.std.specs.Prelude.{◌≡◌, ◌⊎◌, ℕ, ◌<◌, ◌≤◌, Bool, true, false, List, [], ◌∷◌, length, take, count_by, slice_index_or}
+use Rattle.std.specs.Prelude.{◌≡◌, ◌⊎◌, ℕ, ◌<◌, ◌≤◌, Bool, true, false, List, [], ◌∷◌, ◌++◌, length, take, count_by, slice_index_or}
 
 -- the net is one of these
 abbrev pub Waits : List ℕ → ℕ → Type 0
 Waits [] net = ⊥
 Waits (first ∷ nets) net = (first ≡ net) ⊎ Waits nets net
+
+-- The list is the other, or the other with the net behind it.
+abbrev pub IsBehind : List ℕ → ℕ → List ℕ → Type 0
+IsBehind old net new = (new ≡ old) ⊎ (new ≡ old ++ net ∷ [])
 
 -- how many nets there are, and those that wait
 pub record WaitingNets : Type 0 where

@@ -106,7 +106,7 @@ fn chain(device: Device, behind: usize, last: &mut [usize]) -> Earlier
 }
 
 /// The net at one end of the device, or that of the load.
-fn one_end(device: Device) -> u32
+pub(crate) fn one_end(device: Device) -> u32
     ensures { result ≡ one_end device }
 {
     match device {
@@ -116,7 +116,7 @@ fn one_end(device: Device) -> u32
 }
 
 /// The net at the other end of the device, or that of the load.
-fn other_end(device: Device) -> u32
+pub(crate) fn other_end(device: Device) -> u32
     ensures { result ≡ other_end device }
 {
     match device {

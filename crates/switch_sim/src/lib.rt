@@ -2,16 +2,19 @@
 #![tactic(auto)]
 
 mod drive;
+mod gates;
+mod group;
 mod incidence;
 mod laws;
-mod marking;
-mod marks;
+mod names;
 mod run;
 mod settling;
 mod sim;
+mod telling;
 mod trace;
 mod trace_code;
 mod waiting;
+mod worklist;
 
 pub use laws::{texts_are_traces_or_refused, traces_have_an_output, traces_have_one_output};
 pub use run::{RunFault, run_trace};

@@ -1,31 +1,71 @@
-// One settling: updates of all free nets at once, until the levels repeat.
+// One settling: nets are told one after another, until none is due.
 
-ghost use Rattle.std.specs.Prelude.{◌≡◌, ℕ, Bool, List, ◌<◌, false, length, All, AllPairs, slice_set};
-ghost use Rattle.switch_net.specs.Settling.{pad_level, fixed_level};
+ghost use Rattle.std.specs.Prelude.{◌≡◌, ◌≢◌, ◌⊎◌, ℕ, ◌<◌, ◌≤◌, None, true, false, length, All, AllPairs, IfOk, replicate, slice_set, slice_index_or};
+ghost use Rattle.switch_net.specs.Settling.{pad_level, fixed_level, IsFree};
 ghost use Rattle.switch_net.specs.Ternary.{StartsUnknown, SettledLevels};
 ghost use Rattle.switch_net.specs.Validity.{AreDistinct, IsNetwork};
+ghost use Rattle.switch_net.specs.declared.network.Level.TheVariants as level;
+ghost use Rattle.switch_sim.specs.DueNets.{AreListed, AreHandled};
+ghost use Rattle.switch_sim.specs.Gating.{AreGates};
 ghost use Rattle.switch_sim.specs.Incidence.{IsIncidence};
-ghost use Rattle.switch_sim.specs.Marking.{fixed_at, marks_at};
+ghost use Rattle.switch_sim.specs.Nets.{fixed_at};
 ghost use Rattle.switch_sim.specs.Simulation.{level_at};
-ghost use Rattle.switch_sim.specs.Updating.{AreFixed, first_level, next_level, IsSized};
+ghost use Rattle.switch_sim.specs.Sweeping.{LeadsOn, IsCloser};
+ghost use Rattle.switch_sim.specs.Nets.{AreFixed, first_level, IsSized};
+ghost use Rattle.switch_sim.specs.Waiting.{Waits};
 
+use crate::gates::Gates;
 use crate::incidence::Incidence;
-use crate::marking::mark_groups;
-use crate::marks::Marks;
+use crate::telling::look_and_tell;
 use crate::waiting::Waiting;
-use rx_text::Role;
-use switch_net::{Level, Network, Pad};
+use crate::worklist::take;
+use rx_text::{NoMemory, Role};
+use std::alloc::Global;
+use switch_net::{Level, Net, Network, Pad, settled_levels_are_least};
 
-/// What a simulation holds of each net: what its pad fixes it to, its charge, its level, its marks, and the devices at it;
-/// and the nets whose devices wait to be looked at.
+/// What a simulation holds of each net: what its pad fixes it to, its charge, its level, what it is told, whether it was seen
+/// since a gate at it was told, the devices at it and those that it gates; nets of groups, and nets that wait to be looked at.
 #[derive(Drop)]
 pub(crate) struct Nets {
     pub(crate) fixed: Vec<Option<bool>>,
     pub(crate) charges: Vec<Level>,
     pub(crate) levels: Vec<Level>,
-    pub(crate) marks: Vec<Marks>,
+    pub(crate) told: Vec<Option<bool>>,
+    pub(crate) seen: Vec<bool>,
     pub(crate) incidence: Incidence,
-    pub(crate) waiting: Waiting,
+    pub(crate) gates: Gates,
+    pub(crate) group: Waiting,
+    pub(crate) part: Waiting,
+    pub(crate) now: Waiting,
+    pub(crate) next: Waiting,
+}
+
+impl Nets {
+    /// Room for what a simulation of the network holds, in which nothing is known of any net.
+    ///
+    /// # Errors
+    ///
+    /// `NoMemory` where an allocation was refused.
+    pub(crate) fn new(alloc: Global, network: &Network) -> Result<Nets, NoMemory>
+        ensures sized { IfOk result (IsSized network.now) }
+        ensures levels { IfOk result (λ nets. nets.levels.items ≡ replicate network.now.nets level.Unknown) }
+    {
+        let count = network.nets() as usize;
+        let _valid = network.pads();
+        Ok(Nets {
+            fixed: vec![in alloc; None; count]?,
+            charges: vec![in alloc; Level::Unknown; count]?,
+            levels: vec![in alloc; Level::Unknown; count]?,
+            told: vec![in alloc; None; count]?,
+            seen: vec![in alloc; false; count]?,
+            incidence: Incidence::new(alloc, network.devices(), count)?,
+            gates: Gates::new(alloc, network.devices(), count)?,
+            group: Waiting::new(alloc, count)?,
+            part: Waiting::new(alloc, count)?,
+            now: Waiting::new(alloc, count)?,
+            next: Waiting::new(alloc, count)?,
+        })
+    }
 }
 
 /// Settles the network from the levels, which become charges, while the pads are driven so.
@@ -36,58 +76,219 @@ pub(crate) fn settle(network: &Network, drive: &[bool], nets: &mut Nets)
         (level_at nets.new.levels.items) }
     ensures size { IsSized network.now nets.new }
 {
-    fix(network.pads(), drive, &mut nets.fixed);
-    nets.charges.copy_from_slice(&nets.levels);
-    forget(&nets.fixed, &mut nets.levels);
-    iterate(
+    settle_levels(
         network,
+        drive,
         &nets.incidence,
-        &nets.fixed,
-        &nets.charges,
+        &nets.gates,
+        &mut nets.fixed,
+        &mut nets.charges,
+        &mut nets.group,
+        &mut nets.part,
+        &mut nets.told,
+        &mut nets.seen,
+        &mut nets.now,
+        &mut nets.next,
         &mut nets.levels,
-        &mut nets.marks,
-        &mut nets.waiting,
     );
 }
 
-/// Updates the levels until they repeat, or as often as the number of nets and once more.
-fn iterate(
+/// Settles the network from the levels.
+fn settle_levels(
     network: &Network,
+    drive: &[bool],
     incidence: &Incidence,
+    gates: &Gates,
+    fixed: &mut [Option<bool>],
+    charges: &mut [Level],
+    group: &mut Waiting,
+    part: &mut Waiting,
+    told: &mut [Option<bool>],
+    seen: &mut [bool],
+    now: &mut Waiting,
+    next: &mut Waiting,
+    levels: &mut [Level],
+)
+    requires driven { length drive.now ≡ length network.now.pads }
+    requires chains { IsIncidence network.now.devices incidence.now }
+    requires last { length incidence.now.last.items ≡ network.now.nets }
+    requires gates { AreGates network.now.devices gates.now }
+    requires gates_last { length gates.now.last.items ≡ network.now.nets }
+    requires fixed_size { length fixed.old ≡ network.now.nets }
+    requires charges_size { length charges.old ≡ network.now.nets }
+    requires levels_size { length levels.old ≡ network.now.nets }
+    requires group_room { group.old.size ≡ network.now.nets }
+    requires part_room { part.old.size ≡ network.now.nets }
+    requires told_size { length told.old ≡ network.now.nets }
+    requires seen_size { length seen.old ≡ network.now.nets }
+    requires now_room { now.old.size ≡ network.now.nets }
+    requires next_room { next.old.size ≡ network.now.nets }
+    ensures levels { SettledLevels network.now drive.now (level_at levels.old) (level_at levels.new) }
+    ensures fixed_size { length fixed.new ≡ length fixed.old }
+    ensures charges_size { length charges.new ≡ length charges.old }
+    ensures levels_size { length levels.new ≡ length levels.old }
+    ensures group_room { group.new.size ≡ group.old.size }
+    ensures part_room { part.new.size ≡ part.old.size }
+    ensures told_size { length told.new ≡ length told.old }
+    ensures seen_size { length seen.new ≡ length seen.old }
+    ensures now_room { now.new.size ≡ now.old.size }
+    ensures next_room { next.new.size ≡ next.old.size }
+{
+    fix(network.pads(), drive, fixed);
+    charges.copy_from_slice(levels);
+    forget(fixed, levels);
+    begin(network.nets(), fixed, seen, next);
+    tell_all(
+        network, drive, incidence, gates, fixed, charges, group, part, told, seen, now, next,
+        levels,
+    );
+}
+
+/// Looks at the groups of all nets that are due, until none is.
+fn tell_all(
+    network: &Network,
+    drive: &[bool],
+    incidence: &Incidence,
+    gates: &Gates,
     fixed: &[Option<bool>],
     charges: &[Level],
+    group: &mut Waiting,
+    part: &mut Waiting,
+    told: &mut [Option<bool>],
+    seen: &mut [bool],
+    now: &mut Waiting,
+    next: &mut Waiting,
     levels: &mut [Level],
-    marks: &mut [Marks],
-    waiting: &mut Waiting,
 )
     requires valid { IsNetwork network.now }
-    requires fixed_sized { length fixed.now ≡ network.now.nets }
-    requires charges_sized { length charges.now ≡ network.now.nets }
-    requires levels_sized { length levels.old ≡ network.now.nets }
-    requires marks_sized { length marks.old ≡ network.now.nets }
+    requires fixed { AreFixed fixed.now network.now.pads drive.now }
     requires chains { IsIncidence network.now.devices incidence.now }
-    requires chains_sized { length incidence.now.last.items ≡ network.now.nets }
-    requires room { waiting.old.size ≡ network.now.nets }
-    ensures levels { (drives : List Bool) → AreFixed fixed.now network.now.pads drives
-        → StartsUnknown network.now drives (level_at levels.old)
-        → SettledLevels network.now drives (level_at charges.now) (level_at levels.new) }
+    requires last { length incidence.now.last.items ≡ network.now.nets }
+    requires gates { AreGates network.now.devices gates.now }
+    requires gates_last { length gates.now.last.items ≡ network.now.nets }
+    requires fixed_size { length fixed.now ≡ network.now.nets }
+    requires charges_size { length charges.now ≡ network.now.nets }
+    requires levels_size { length levels.old ≡ network.now.nets }
+    requires group_room { group.old.size ≡ network.now.nets }
+    requires part_room { part.old.size ≡ network.now.nets }
+    requires told_size { length told.old ≡ network.now.nets }
+    requires seen_size { length seen.old ≡ network.now.nets }
+    requires now_room { now.old.size ≡ network.now.nets }
+    requires next_room { next.old.size ≡ network.now.nets }
+    requires unknown { StartsUnknown network.now drive.now (level_at levels.old) }
+    requires handled { AreHandled network.now drive.now charges.now levels.old seen.old }
+    requires listed { AreListed network.now drive.now seen.old now.old.nets next.old.nets }
+    ensures levels { SettledLevels network.now drive.now (level_at charges.now) (level_at levels.new) }
     ensures levels_size { length levels.new ≡ length levels.old }
-    ensures marks_size { length marks.new ≡ length marks.old }
-    ensures room { waiting.new.size ≡ waiting.old.size }
+    ensures group_room { group.new.size ≡ group.old.size }
+    ensures part_room { part.new.size ≡ part.old.size }
+    ensures told_size { length told.new ≡ length told.old }
+    ensures seen_size { length seen.new ≡ length seen.old }
+    ensures now_room { now.new.size ≡ now.old.size }
+    ensures next_room { next.new.size ≡ next.old.size }
 {
-    for _ in 0..u64::from(network.nets()) + 1 {
-        mark_groups(
-            network.devices(),
-            incidence,
-            fixed,
-            charges,
+    settled_levels_are_least();
+    while let Some(net) = take(now, next) {
+        look_if_due(
+            network, drive, incidence, gates, fixed, charges, net, group, part, told, seen, next,
             levels,
-            marks,
-            waiting,
         );
-        if !update(fixed, marks, levels) {
-            return;
-        }
+        now.fits();
+    }
+}
+
+/// Looks at the group of the net where it is due.
+fn look_if_due(
+    network: &Network,
+    drive: &[bool],
+    incidence: &Incidence,
+    gates: &Gates,
+    fixed: &[Option<bool>],
+    charges: &[Level],
+    net: u32,
+    group: &mut Waiting,
+    part: &mut Waiting,
+    told: &mut [Option<bool>],
+    seen: &mut [bool],
+    next: &mut Waiting,
+    levels: &mut [Level],
+)
+    requires valid { IsNetwork network.now }
+    requires within { net < network.now.nets }
+    requires fixed { AreFixed fixed.now network.now.pads drive.now }
+    requires chains { IsIncidence network.now.devices incidence.now }
+    requires last { length incidence.now.last.items ≡ network.now.nets }
+    requires gates { AreGates network.now.devices gates.now }
+    requires gates_last { length gates.now.last.items ≡ network.now.nets }
+    requires fixed_size { length fixed.now ≡ network.now.nets }
+    requires charges_size { length charges.now ≡ network.now.nets }
+    requires levels_size { length levels.old ≡ network.now.nets }
+    requires group_room { group.old.size ≡ network.now.nets }
+    requires part_room { part.old.size ≡ network.now.nets }
+    requires told_size { length told.old ≡ network.now.nets }
+    requires seen_size { length seen.old ≡ network.now.nets }
+    requires next_room { next.old.size ≡ network.now.nets }
+    ensures leads { LeadsOn network.now drive.now charges.now levels.old levels.new }
+    ensures handled { AreHandled network.now drive.now charges.now levels.old seen.old
+        → AreHandled network.now drive.now charges.now levels.new seen.new }
+    ensures listed { (k : ℕ) → IsFree network.now drive.now k → slice_index_or seen.new k false ≡ false
+        → ((slice_index_or seen.old k false ≡ false) × (net ≢ k)) ⊎ Waits next.new.nets k }
+    ensures kept { (k : ℕ) → Waits next.old.nets k → Waits next.new.nets k }
+    ensures closer { IsCloser levels.old next.old.nets levels.new next.new.nets }
+    ensures fits { length next.new.nets ≤ next.new.size }
+    ensures levels_size { length levels.new ≡ length levels.old }
+    ensures group_room { group.new.size ≡ group.old.size }
+    ensures part_room { part.new.size ≡ part.old.size }
+    ensures told_size { length told.new ≡ length told.old }
+    ensures seen_size { length seen.new ≡ length seen.old }
+    ensures next_room { next.new.size ≡ next.old.size }
+{
+    next.fits();
+    if !is_due(fixed, seen, net) {
+        return;
+    }
+    look_and_tell(
+        network, drive, incidence, gates, fixed, charges, net, group, part, told, seen, next,
+        levels,
+    );
+    next.fits();
+}
+
+/// The net is free, and was not seen since a gate at it was told.
+fn is_due(fixed: &[Option<bool>], seen: &[bool], net: u32) -> bool
+    requires fixed_size { net < length fixed.now }
+    requires seen_size { net < length seen.now }
+    ensures due { result ≡ true → fixed_at fixed.now net ≡ None }
+    ensures rest { result ≡ false → fixed_at fixed.now net ≡ None → slice_index_or seen.now net false ≡ true }
+{
+    fixed[net as usize].is_none() && !seen[net as usize]
+}
+
+/// All free nets are due.
+fn begin(nets: u32, fixed: &[Option<bool>], seen: &mut [bool], next: &mut Waiting)
+    requires fixed_size { length fixed.now ≡ nets }
+    requires room { next.old.size ≡ nets }
+    ensures due { (net : ℕ) → slice_index_or seen.new net false ≡ false }
+    ensures waits { (net : ℕ) → net < nets → fixed_at fixed.now net ≡ None → Waits next.new.nets net }
+    ensures seen_size { length seen.new ≡ length seen.old }
+    ensures next_room { next.new.size ≡ next.old.size }
+{
+    seen.fill(false);
+    for net in 0..nets {
+        add_free(fixed, net, next);
+    }
+}
+
+/// The net waits, where it is free.
+fn add_free(fixed: &[Option<bool>], net: u32, next: &mut Waiting)
+    requires within { net < length fixed.now }
+    requires room { next.old.size ≡ length fixed.now }
+    ensures waits { fixed_at fixed.now net ≡ None → Waits next.new.nets net }
+    ensures kept { (k : ℕ) → Waits next.old.nets k → Waits next.new.nets k }
+    ensures room { next.new.size ≡ next.old.size }
+{
+    if fixed[net as usize].is_none() {
+        next.add(Net(net));
     }
 }
 
@@ -147,39 +348,4 @@ fn first_level(fixed: Option<bool>) -> Level
         Some(false) => Level::Low,
         None => Level::Unknown,
     }
-}
-
-/// Updates all free nets by their marks, and answers whether a level changed.
-fn update(fixed: &[Option<bool>], marks: &[Marks], levels: &mut [Level]) -> bool
-    requires fixed_sized { length fixed.now ≡ length levels.old }
-    requires marks_sized { length marks.now ≡ length levels.old }
-    ensures levels { (net : ℕ) → net < length levels.old → level_at levels.new net
-        ≡ next_level (fixed_at fixed.now net) (marks_at marks.now net) (level_at levels.old net) }
-    ensures rest { result ≡ false → levels.new ≡ levels.old }
-    ensures size { length levels.new ≡ length levels.old }
-{
-    let mut changed = false;
-    for (net, level) in levels.iter_mut().enumerate() {
-        let next = next_level(fixed[net], marks[net], *level);
-        changed |= differs(next, *level);
-        *level = next;
-    }
-    changed
-}
-
-/// The level of a net after an update: its own where it is fixed, else that of its marks.
-fn next_level(fixed: Option<bool>, marks: Marks, level: Level) -> Level
-    ensures { result ≡ next_level fixed marks level }
-{
-    match fixed {
-        Some(_) => level,
-        None => marks.level(),
-    }
-}
-
-/// The levels differ.
-fn differs(one: Level, other: Level) -> bool
-    ensures { result ≡ false → one ≡ other }
-{
-    one != other
 }

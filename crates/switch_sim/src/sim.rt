@@ -4,36 +4,43 @@ ghost use Rattle.std.specs.Prelude.{◌≡◌, ℕ, ◌<◌, length, IfOk, repli
 ghost use Rattle.switch_net.specs.Clock.{drives_of};
 ghost use Rattle.switch_net.specs.Ternary.{SettledLevels, ClockLevels};
 ghost use Rattle.switch_net.specs.declared.network.Level.TheVariants as level;
+ghost use Rattle.switch_net.specs.SameNetworks.{renamed};
+ghost use Rattle.switch_sim.specs.Naming.{number, AreNames, levels_from};
+ghost use Rattle.switch_sim.specs.Nets.{IsSized};
 ghost use Rattle.switch_sim.specs.Simulation.{level_at};
 
 use crate::drive::Drive;
-use crate::incidence::Incidence;
-use crate::marks::Marks;
+use crate::names::{names_of, numbered, place};
 use crate::settling::{Nets, settle};
-use crate::waiting::Waiting;
 use rx_text::NoMemory;
 use std::alloc::Global;
 use std::marker::Model;
-use switch_net::{Level, Net, Network};
+use switch_net::{Level, Net, Network, same_networks_run_alike, settled_levels_are_least};
 
 /// A simulation of a network by ternary levels: a net is low or high where that is so whatever was unknown before, else
-/// unknown. A settling takes updates of all free nets at once until the levels repeat.
+/// unknown. Nets that no pad and no device names cost neither time nor memory.
 #[derive(Drop)]
 pub struct Sim<'a> {
     network: &'a Network,
+    names: Vec<u32>,
+    numbered: Network,
     nets: Nets,
     drive: Vec<bool>,
 }
 
 impl<'a> Model for Sim<'a> {
+    ghost use Rattle.switch_sim.specs.Naming.{levels_from};
     ghost use Rattle.switch_sim.specs.Simulating.{IsSimulation};
     ghost use Rattle.switch_sim.specs.Simulation.{Simulation};
 
     ghost Value = { Simulation };
 
-    ghost view = { λ s. record { circuit = s.network.now; levels = s.nets.levels.items } };
+    ghost view = { λ s. record {
+      circuit = s.network.now;
+      levels = levels_from s.names.items s.nets.levels.items 0 s.network.now.nets;
+    } };
 
-    ghost invariant = { λ s. IsSimulation s.network.now s.nets s.drive.items };
+    ghost invariant = { λ s. IsSimulation s.network.now s.names.items s.numbered s.nets s.drive.items };
 }
 
 impl<'a> Sim<'a> {
@@ -46,19 +53,16 @@ impl<'a> Sim<'a> {
         ensures { IfOk result (λ sim. sim
             ≡ record { circuit = network.now; levels = replicate network.now.nets level.Unknown }) }
     {
-        let count = network.nets() as usize;
-        let pads = network.pads();
+        let names = names_of(alloc, network)?;
+        let numbered = numbered(alloc, network, &names)?;
+        let nets = Nets::new(alloc, &numbered)?;
+        let drive = vec![in alloc; false; network.pads().len()]?;
         Ok(Sim {
             network,
-            nets: Nets {
-                fixed: vec![in alloc; None; count]?,
-                charges: vec![in alloc; Level::Unknown; count]?,
-                levels: vec![in alloc; Level::Unknown; count]?,
-                marks: vec![in alloc; Marks::NONE; count]?,
-                incidence: Incidence::new(alloc, network.devices(), count)?,
-                waiting: Waiting::new(alloc, count)?,
-            },
-            drive: vec![in alloc; false; pads.len()]?,
+            names,
+            numbered,
+            nets,
+            drive,
         })
     }
 
@@ -70,7 +74,13 @@ impl<'a> Sim<'a> {
             (level_at self.new.levels) }
         ensures circuit { self.new.circuit ≡ self.old.circuit }
     {
-        settle(self.network, drive, &mut self.nets);
+        settle_numbered(
+            self.network,
+            &self.names,
+            &self.numbered,
+            drive,
+            &mut self.nets,
+        );
     }
 
     /// One clock: the input pads take the bits of the vector in their order and the reset its value while both clocks are
@@ -94,7 +104,13 @@ impl<'a> Sim<'a> {
         ensures circuit { self.new.circuit ≡ self.old.circuit }
     {
         drive.fill(self.network.pads(), &mut self.drive);
-        settle(self.network, &self.drive, &mut self.nets);
+        settle_numbered(
+            self.network,
+            &self.names,
+            &self.numbered,
+            &self.drive,
+            &mut self.nets,
+        );
     }
 
     /// The level of the net.
@@ -102,8 +118,33 @@ impl<'a> Sim<'a> {
         requires { net.0 < self.now.circuit.nets }
         ensures { result ≡ level_at self.now.levels net.0 }
     {
-        self.nets.levels[net.0 as usize]
+        match place(&self.names, net.0) {
+            Some(at) => self.nets.levels[at],
+            None => Level::Unknown,
+        }
     }
+}
+
+/// Settles the network by that in which its named nets have their numbers.
+fn settle_numbered(
+    network: &Network,
+    names: &[u32],
+    numbered: &Network,
+    drive: &[bool],
+    nets: &mut Nets,
+)
+    requires named { AreNames network.now names.now }
+    requires same { numbered.now ≡ renamed (number names.now) (length names.now) network.now }
+    requires sized { IsSized numbered.now nets.old }
+    requires driven { length drive.now ≡ length network.now.pads }
+    ensures levels { SettledLevels network.now drive.now (level_at (levels_from names.now nets.old.levels.items 0 network.now.nets))
+        (level_at (levels_from names.now nets.new.levels.items 0 network.now.nets)) }
+    ensures size { IsSized numbered.now nets.new }
+{
+    same_networks_run_alike();
+    settled_levels_are_least();
+    let _valid = network.pads();
+    settle(numbered, drive, nets);
 }
 
 /// What drives the pads while the clocks are so.

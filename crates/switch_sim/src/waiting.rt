@@ -1,7 +1,7 @@
 // Nets that wait for their devices to be looked at.
 
-ghost use Rattle.std.specs.Prelude.{◌≡◌, ◌<◌, ◌≤◌, ◌+◌, ℕ, None, [], ◌∷◌, ◌++◌, length, IfOk, IfSome};
-ghost use Rattle.switch_sim.specs.Waiting.{Waits};
+ghost use Rattle.std.specs.Prelude.{◌≡◌, ◌<◌, ◌≤◌, ◌+◌, ℕ, None, [], ◌∷◌, ◌++◌, length, IfOk, IfSome, slice_index_or};
+ghost use Rattle.switch_sim.specs.Waiting.{Waits, IsBehind};
 
 use rx_text::NoMemory;
 use std::alloc::Global;
@@ -49,6 +49,7 @@ impl Waiting {
         ensures waits { Waits self.new.nets net.0 }
         ensures kept { (other : ℕ) → Waits self.old.nets other → Waits self.new.nets other }
         ensures most { length self.new.nets ≤ length self.old.nets + 1 }
+        ensures behind { IsBehind self.old.nets net.0 self.new.nets }
         ensures size { self.new.size ≡ self.old.size }
     {
         if !self.flags[net.0 as usize] {
@@ -58,9 +59,34 @@ impl Waiting {
         }
     }
 
+    /// There are no more nets than there is room for. It runs nothing: a caller has the law from its contract.
+    pub(crate) fn fits(&self)
+        ensures { length self.now.nets ≤ self.now.size }
+    {
+        let _count = &self.count;
+    }
+
+    /// How many nets there are.
+    pub(crate) fn len(&self) -> usize
+        ensures count { result ≡ length self.now.nets }
+        ensures most { result ≤ self.now.size }
+    {
+        self.count
+    }
+
+    /// The net of this number, from 0.
+    pub(crate) fn get(&self, at: usize) -> u32
+        requires { at < length self.now.nets }
+        ensures net { result ≡ slice_index_or self.now.nets at 0 }
+        ensures within { result < self.now.size }
+    {
+        self.nets[at]
+    }
+
     /// Takes the last net that waits.
     pub(crate) fn pop(&mut self) -> Option<u32>
         ensures none { result ≡ None → self.old.nets ≡ [] }
+        ensures left { result ≡ None → self.new.nets ≡ [] }
         ensures some { IfSome result (λ net. self.old.nets ≡ self.new.nets ++ net ∷ []) }
         ensures within { IfSome result (λ net. net < self.old.size) }
         ensures size { self.new.size ≡ self.old.size }

@@ -1,7 +1,8 @@
 use mathlib.Core.Path.{fun_ext}
 use Rattle.std.proofs.Common.{◌≡◌, ℕ, zero, suc, ◌+◌, ◌<◌, ◌≤◌, List, [], ◌∷◌, ◌++◌, Bool, true, false, Option, Result, Ok, Err, length, get_or, take, drop, replicate, refl, sym, ap, ◌∙◌, subst, arith}
 use Rattle.std.proofs.lemmas.List.{take_more, take_all, take-append-drop, length-take-le}
-use Rattle.std.specs.Prelude.{OnErr}
+use Rattle.std.specs.Prelude.{OnErr, None}
+use Rattle.std.specs.Result.{IsErrAnd}
 use Rattle.switch_net.specs.Circuit.{Circuit}
 use Rattle.switch_net.specs.Ternary.{Levels, nothing_known, ClockLevels}
 use Rattle.switch_net.specs.declared.network.Level.TheVariants.{Unknown}
@@ -9,7 +10,8 @@ use Rattle.std.specs.Io.KnownBytes.{Appends}
 use Rattle.rx_io.specs.Streams.{AppendsFront}
 use Rattle.switch_sim.specs.Simulation.{level_at}
 use Rattle.switch_sim.specs.Simulation.{Simulation}
-use Rattle.switch_sim.specs.TraceLines.{clock_line, GainsLines}
+use Rattle.switch_sim.specs.TraceLines.{clock_line, GainsLines, named_wrong}
+use Rattle.switch_sim.specs.declared.run.RunFault.{RunFault}
 use Rattle.switch_sim.proofs.Runs.{none_gained, first_failed, later_failed, shown_first, shown_more, shown_all}
 use Rattle.switch_sim.proofs.run.run_trace.Goals as goal
 
@@ -102,3 +104,13 @@ pub returns-clause-ok : goal.returns-clause-ok
 returns-clause-ok g c =
     let all : length c.args.trace.now ≤ c.loop-at.at = omega (arith, c.len-at-end.ensures.count) in
     subst (GainsLines _ _ c.args.network.now) (take_all c.loop-at.at c.args.trace.now all) (shown_all c.args.network.now _ _ _ _ c.loop-at.invariant.shown)
+
+-- a fault that names no vector names none where it is passed on
+passed_on : (r : Result (Unit {0}) RunFault) (e : RunFault) → IsErrAnd r (λ x. x ≡ e) → named_wrong {A = Unit {0}} (Err e) ≡ None → named_wrong r ≡ None
+passed_on (Ok x) e h w = refl
+passed_on (Err x) e h w = ap (λ y. named_wrong {A = Unit {0}} (Err y)) h ∙ w
+
+pub returns-in_err-put_line-2-clause-width : goal.returns-in_err-put_line-2-clause-width
+returns-in_err-put_line-2-clause-width g c =
+    passed_on c.from_residual-in_err-put_line-2.result c.in_err-put_line-2.field-0.0 c.from_residual-in_err-put_line-2.ensures.1 c.in_err-put_line-2.ensures.width
+    ∙ sym c.in_default.is ∙ c.first_wrong.ensures

@@ -1,6 +1,6 @@
 use Rattle.std.proofs.Common.{◌≡◌, ℕ, take}
 use Rattle.switch_net.specs.Settling.{fixed_level}
-use Rattle.switch_sim.specs.Marking.{fixed_at}
+use Rattle.switch_sim.specs.Nets.{fixed_at}
 use Rattle.switch_sim.proofs.settling.fix.Given as goal
 
 abbrev pub invariant-loop-at : goal.invariant-loop-at

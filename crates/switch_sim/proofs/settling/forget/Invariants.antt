@@ -1,7 +1,7 @@
 use Rattle.std.proofs.Common.{◌≡◌, ℕ, ◌<◌}
-use Rattle.switch_sim.specs.Marking.{fixed_at}
+use Rattle.switch_sim.specs.Nets.{fixed_at}
 use Rattle.switch_sim.specs.Simulation.{level_at}
-use Rattle.switch_sim.specs.Updating.{first_level}
+use Rattle.switch_sim.specs.Nets.{first_level}
 use Rattle.switch_sim.proofs.settling.forget.Given as goal
 
 abbrev pub invariant-loop-net : goal.invariant-loop-net

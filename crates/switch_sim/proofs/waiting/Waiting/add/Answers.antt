@@ -1,4 +1,4 @@
-use Rattle.std.proofs.Common.{rules, arith, ◌≡◌, ◌<◌, false, length, get_or, sym, ap, subst, ◌∙◌}
+use Rattle.std.proofs.Common.{rules, arith, ◌≡◌, ◌<◌, false, length, get_or, sym, ap, subst, ◌∙◌, inr, ◌++◌, ◌∷◌, []}
 use Rattle.std.proofs.lemmas.List.{get_or_default}
 use Rattle.switch_sim.specs.Waiting.{Waits}
 use Rattle.switch_sim.proofs.WaitingNets.{has_room, longer, added, waits_before, waits_last}
@@ -41,3 +41,12 @@ returns-then-not-index-clause-kept c =
     get_or_default flags c.args.net.0 false c.index.result.now within ∙ sym c.index.ensures ∙ c.if-not-index.true in
     λ other w. subst (λ ws. Waits ws other) (sym (longer _ _ _ c.self.invariant c.args.net.0 within free))
     (waits_before _ c.args.net.0 other (subst (λ ws. Waits ws other) (sym (ap (λ q. q.nets) c.self.view_is)) w))
+
+-- src/waiting.rt
+pub returns-then-not-index-clause-behind : goal.returns-then-not-index-clause-behind
+returns-then-not-index-clause-behind c =
+    let flags = c.self.inside.flags.items in
+    let within : c.args.net.0 < length flags = search rules in
+    let free : get_or flags c.args.net.0 false ≡ false =
+    get_or_default flags c.args.net.0 false c.index.result.now within ∙ sym c.index.ensures ∙ c.if-not-index.true in
+    inr (longer _ _ _ c.self.invariant c.args.net.0 within free ∙ ap (λ q. q.nets ++ c.args.net.0 ∷ []) c.self.view_is)
