@@ -35,3 +35,4 @@ mod CoveredBorders
 mod RenamedDevices
 mod CoveredDevices
 mod CoveredModules
+mod LabelledModules

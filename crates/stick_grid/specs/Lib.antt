@@ -12,6 +12,7 @@ pub mod Depicted
 pub mod Modules
 pub mod Mirrors
 pub mod PlacedModules
+pub mod LabelledModules
 -- Definitions that serve private contracts alone:
 pub mod PieceGraph
 pub mod NetMaps

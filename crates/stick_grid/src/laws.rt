@@ -3,6 +3,7 @@
 
 ghost use Rattle.stick_grid.specs.Depicted.{PlansStandForNetworks, PortsHaveSquares};
 ghost use Rattle.stick_grid.specs.Devices.{TransistorsAreChannels};
+ghost use Rattle.stick_grid.specs.LabelledModules.{ModulesStandForNetworks};
 ghost use Rattle.stick_grid.specs.Mirrors.{MirrorsAreModules};
 ghost use Rattle.stick_grid.specs.Names.{NamesAreNets, PiecesHaveSquares, PlansHavePaths};
 ghost use Rattle.stick_grid.specs.Pieces.{PlansHavePieces, SquaresAreNets};
@@ -68,4 +69,9 @@ pub fn mirrors_are_modules()
 /// Modules that cover a plan make it a module, whose devices are theirs.
 pub fn coverings_are_modules()
     ensures { CoveringsAreModules }
+{}
+
+/// A module with labels at its border stands for the network with its devices and the pads of the labels.
+pub fn modules_stand_for_networks()
+    ensures { ModulesStandForNetworks }
 {}
