@@ -1,6 +1,6 @@
 -- Layers that ports carry, by tests, and the nets that lead out with them.
 use Rattle.std.proofs.Common.{◌≡◌, ℕ, Bool, true, false, if◌then◌else◌, Option, Some, None, refl, sym, ap, subst}
-use Rattle.std.specs.Prelude.{option_map}
+use Rattle.std.specs.Prelude.{option_map, is_some}
 use Rattle.geom.specs.declared.layer.Layer.{Layer}
 use Rattle.geom.specs.declared.layer.Layer.TheVariants.{Diffusion, Poly, Metal, Cut, Implant}
 use Rattle.micro_tiles.specs.declared.side.Port.{Port}
@@ -14,7 +14,7 @@ same_is Cut Cut h = refl
 same_is Implant Implant h = refl
 same_is _ _ h = absurd (cc)
 
-other_is : (other : Option Layer) (layer : Layer) → is_some_layer other layer ≡ true → other ≡ Some layer
+pub other_is : (other : Option Layer) (layer : Layer) → is_some_layer other layer ≡ true → other ≡ Some layer
 other_is None layer h = absurd (cc)
 other_is (Some l) layer h = ap (λ (x : Layer). Some x) (same_is l layer h)
 
@@ -45,3 +45,7 @@ module _ (name : ℕ → ℕ) (number : ℕ) where
   pub leads_out : (t : Bool) (net : ℕ) → option_map name (if t then Some number else None) ≡ Some net → (t ≡ true) × (name number ≡ net)
   leads_out true net h = (refl, cc)
   leads_out false net h = absurd (cc)
+
+  pub led_test : (t : Bool) (rename : ℕ → ℕ) → is_some (option_map rename (option_map name (if t then Some number else None))) ≡ t
+  led_test true rename = refl
+  led_test false rename = refl

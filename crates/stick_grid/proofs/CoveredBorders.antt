@@ -33,7 +33,7 @@ module _ (whole : Plan) (count vdd : ℕ) (modules : ℕ → PlacedModule) (n : 
     at_place below r s =
         let q = place_in m side place in
         let local = λ (net : ℕ). m.name (piece (row - m.row) (col - m.col) net) in
-        let tile = tile_is whole count vdd c.is_plan m pl row col held in
+        let tile = tile_is whole count vdd m pl row col held in
         let inner : option_map local (named_net (whole.tile row col) side layer) ≡ net_along m.plan m.name side q layer =
         ap (λ (t : ℕ). option_map local (named_net t side layer)) (sym tile)
         ∙ ap (λ (x : ℕ). option_map (λ net. m.name (piece x (col - m.col) net)) (named_net (m.plan.tile x (col - m.col)) side layer)) (sym r)

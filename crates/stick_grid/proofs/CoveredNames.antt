@@ -1,5 +1,6 @@
 -- The names of a plan's nets, by the modules that cover it.
-use Rattle.std.proofs.Common.{◌≡◌, ℕ, ◌+◌, ◌-◌, ◌<◌, ◌≤◌, ◌⊎◌, inl, inr, Some, refl, sym, ap, ◌∙◌, subst, arith}
+use Rattle.std.proofs.Common.{◌≡◌, ℕ, ◌+◌, ◌-◌, ◌<◌, ◌≤◌, ◌⊎◌, inl, inr, Option, Some, refl, sym, ap, ◌∙◌, subst, arith}
+use Rattle.std.specs.Prelude.{option_map}
 use Rattle.std.proofs.Props.{props}
 use Rattle.std.proofs.lemmas.Bool.{cases_eq, cases_lt}
 use Rattle.geom.specs.declared.layer.Layer.{Layer}
@@ -8,20 +9,25 @@ use Rattle.micro_tiles.specs.declared.side.Side.TheVariants.{North, East, South,
 use Rattle.micro_tiles.specs.Sides.{Carries}
 use Rattle.micro_tiles.specs.Designs.{side_net}
 use Rattle.micro_tiles.specs.Table.{design_of, port_at}
-use Rattle.stick_grid.specs.Plans.{Plan}
+use Rattle.stick_grid.specs.Plans.{Plan, IsPlan}
 use Rattle.stick_grid.specs.Pieces.{Piece, MeetsAtEast, MeetsAtSouth, Connected}
 use Rattle.stick_grid.specs.Pieces.Connected.{east as step_east, south as step_south}
 use Rattle.stick_grid.specs.Pieces.Connected.{same as no_step}
 use Rattle.stick_grid.specs.Transistors.{piece}
 use Rattle.stick_grid.specs.Names.{IsPiece, AreNames}
 use Rattle.stick_grid.specs.Modules.{places_along, row_along, col_along}
-use Rattle.stick_grid.specs.PlacedModules.{PlacedModule, IsPlaced, Holds, ModuleNet, whole_net, ModulesMeetEast, ModulesMeetSouth, ModulesJoin, AreCovering, name_in, whole_name}
+use Rattle.stick_grid.specs.PlacedModules.{PlacedModule, IsPlaced, Holds, StandBeside, StandAbove, ModuleNet, whole_net, ModulesMeetEast, ModulesMeetSouth, ModulesJoin, AreCovering, name_in, whole_name}
 use Rattle.stick_grid.specs.PlacedModules.ModulesJoin.{same, east, west, south, north}
 use Rattle.stick_grid.proofs.Named.{goes_on, leads_back}
+use Rattle.stick_grid.proofs.CoveredPlans as plans
+use Rattle.stick_grid.proofs.CoveredPlans.{beside_at, above_at}
 use Rattle.stick_grid.proofs.CoveredNets as nets
 use Rattle.stick_grid.proofs.CoveredNets.{local_piece}
 
 module _ (whole : Plan) (count vdd : ℕ) (modules : ℕ → PlacedModule) (n : ℕ) (c : AreCovering whole count vdd modules n) where
+  is_plan : IsPlan whole
+  is_plan = plans.is_plan whole count vdd modules n c
+
   abbrev name : Piece → ℕ
   name = whole_name modules c.at
 
@@ -50,7 +56,7 @@ module _ (whole : Plan) (count vdd : ℕ) (modules : ℕ → PlacedModule) (n : 
   below p of =
       let m = modules (at_piece p) in
       let pl = placed p of.is_row of.is_col in
-      pl.is_module.names.below (local_piece m p) (nets.piece_here whole count vdd c.is_plan m pl p (here p of.is_row of.is_col) of)
+      pl.is_module.names.below (local_piece m p) (nets.piece_here whole count vdd is_plan m pl p (here p of.is_row of.is_col) of)
 
   -- ---- nets that meet
 
@@ -60,7 +66,7 @@ module _ (whole : Plan) (count vdd : ℕ) (modules : ℕ → PlacedModule) (n : 
   one_module_east k k_known a b h j meets =
       let m = modules k in
       let pl = c.placed k k_known in
-      ap m.rename (pl.is_module.names.eastward (local_piece m a) (local_piece m b) (nets.meet_east_here whole count vdd c.is_plan m pl a b h j meets))
+      ap m.rename (pl.is_module.names.eastward (local_piece m a) (local_piece m b) (nets.meet_east_here whole count vdd m pl a b h j meets))
 
   one_module_south : (k : ℕ) (k_known : k < n) (a b : Piece) → Holds (modules k) a.row a.col → Holds (modules k) b.row b.col → MeetsAtSouth whole a b
       → name_in (modules k) a ≡ name_in (modules k) b
@@ -68,7 +74,7 @@ module _ (whole : Plan) (count vdd : ℕ) (modules : ℕ → PlacedModule) (n : 
       let m = modules k in
       let pl = c.placed k k_known in
       ap m.rename (pl.is_module.names.southward (local_piece m a) (local_piece m b)
-      (nets.meet_south_here whole count vdd c.is_plan m pl a b h j meets))
+      (nets.meet_south_here whole count vdd m pl a b h j meets))
 
   -- what a module has in its last column leads out to the east, and so on
   module _ (k : ℕ) (k_known : k < n) (p : Piece) (h : Holds (modules k) p.row p.col) (layer : Layer) where
@@ -79,13 +85,13 @@ module _ (whole : Plan) (count vdd : ℕ) (modules : ℕ → PlacedModule) (n : 
     pl = c.placed k k_known
 
     tile : m.plan.tile (p.row - m.row) (p.col - m.col) ≡ whole.tile p.row p.col
-    tile = nets.tile_is whole count vdd c.is_plan m pl p.row p.col h
+    tile = nets.tile_is whole count vdd m pl p.row p.col h
 
     is_row : p.row - m.row < m.plan.rows
-    is_row = nets.local_row whole count vdd c.is_plan m pl p.row p.col h
+    is_row = nets.local_row whole count vdd m pl p.row p.col h
 
     is_col : p.col - m.col < m.plan.cols
-    is_col = nets.local_col whole count vdd c.is_plan m pl p.row p.col h
+    is_col = nets.local_col whole count vdd m pl p.row p.col h
 
     -- the side of the module at this tile, which stands there along the side
     out : (side : Side) (q r s : ℕ) → q < places_along m.plan side → row_along m.plan side q ≡ r → col_along m.plan side q ≡ s → r ≡ p.row - m.row
@@ -97,7 +103,7 @@ module _ (whole : Plan) (count vdd : ℕ) (modules : ℕ → PlacedModule) (n : 
         let cols = col_is ∙ s_is in
         let same_tile : m.plan.tile (row_along m.plan side q) (col_along m.plan side q) ≡ whole.tile p.row p.col =
         ap (λ (x : ℕ). m.plan.tile x (col_along m.plan side q)) rows ∙ ap (m.plan.tile (p.row - m.row)) cols ∙ tile in
-        nets.carried_out whole count vdd c.is_plan m pl side q layer below_side (subst (λ t. Carries (port_at t side) layer) (sym same_tile) carried)
+        nets.carried_out whole count vdd m pl side q layer below_side (subst (λ t. Carries (port_at t side) layer) (sym same_tile) carried)
         ∙ ap (λ (x : Piece). Some (m.name x))
         (ap (λ (x : ℕ). piece x (col_along m.plan side q)
         (side_net (design_of (m.plan.tile (row_along m.plan side q) (col_along m.plan side q))) side layer)) rows
@@ -126,6 +132,20 @@ module _ (whole : Plan) (count vdd : ℕ) (modules : ℕ → PlacedModule) (n : 
     out_north begins = out North (p.col - m.col) _ _ is_col refl refl (omega arith) refl
 
   -- two modules
+  one_net : (f g : ℕ → ℕ) (o u : Option ℕ) (x y : ℕ) → o ≡ Some x → u ≡ Some y → option_map f o ≡ option_map g u → f x ≡ g y
+  one_net f g o u x y e h same_nets =
+      let whole_nets : Some (f x) ≡ Some (g y) = ap (option_map f) (sym e) ∙ same_nets ∙ ap (option_map g) h in cc
+
+  joined_east : (a b : ModuleNet) → ModulesMeetEast modules n a b → whole_net modules a ≡ whole_net modules b
+  joined_east a b h =
+      one_net (modules a.which).rename (modules b.which).rename _ _ a.net b.net h.first h.second
+      (c.eastward a.which b.which h.row h.col h.layer h.beside)
+
+  joined_south : (a b : ModuleNet) → ModulesMeetSouth modules n a b → whole_net modules a ≡ whole_net modules b
+  joined_south a b h =
+      one_net (modules a.which).rename (modules b.which).rename _ _ a.net b.net h.first h.second
+      (c.southward a.which b.which h.row h.col h.layer h.above)
+
   module _ (a b : Piece) (meets : MeetsAtEast whole a b) where
     east_row : b.row < whole.rows
     east_row = let e = meets.row in let h = meets.is_row in omega arith
@@ -139,52 +159,30 @@ module _ (whole : Plan) (count vdd : ℕ) (modules : ℕ → PlacedModule) (n : 
         let high = meets.is_col in
         subst (λ (x : ℕ). Carries (port_at (whole.tile x b.col) West) meets.layer) (sym meets.row)
         (subst (λ (x : ℕ). Carries (port_at (whole.tile a.row x) West) meets.layer) (sym meets.col)
-        (subst (λ p. Carries p meets.layer) (c.is_plan.eastward a.row a.col meets.is_row (omega arith)) meets.carried))
+        (subst (λ p. Carries p meets.layer) (is_plan.eastward a.row a.col meets.is_row (omega arith)) meets.carried))
+
+    next_at : c.at a.row (a.col + 1) ≡ at_piece b
+    next_at = ap (c.at a.row) (sym meets.col) ∙ ap (λ (x : ℕ). c.at x b.col) (sym meets.row)
 
     two_modules_east : (at_piece a ≡ at_piece b → ⊥) → ModulesMeetEast modules n (net_of a) (net_of b)
     two_modules_east differ =
         let k = at_piece a in
         let l = at_piece b in
-        let k_known = known a meets.is_row east_col in
-        let l_known = known b east_row meets.is_col in
-        let h = here a meets.is_row east_col in
-        let j = here b east_row meets.is_col in
-        let row = meets.row in
         let col = meets.col in
-        let k_row = h.from_row in
-        let k_high = h.to_row in
-        let k_col = h.from_col in
-        let k_end = h.to_col in
-        let l_row = j.from_row in
-        let l_high = j.to_row in
-        let l_col = j.from_col in
-        let l_end = j.to_col in
-        let ends : (modules k).col + (modules k).plan.cols ≡ a.col + 1 = elim (cases_lt (a.col + 1) ((modules k).col + (modules k).plan.cols)) [
-          | inl more ↦
-              absurd (differ (sym (c.once k b.row b.col k_known
-              (record { from_row = omega arith; to_row = omega arith; from_col = omega arith; to_col = omega arith }))))
-          | inr last ↦ omega arith
-        ] in
-        let begins : (modules l).col ≡ a.col + 1 = elim (cases_lt (modules l).col (a.col + 1)) [
-          | inl more ↦
-              absurd (differ (c.once l a.row a.col l_known
-              (record { from_row = omega arith; to_row = omega arith; from_col = omega arith; to_col = omega arith })))
-          | inr first ↦ omega arith
-        ] in
+        let high = meets.is_col in
+        let beside : StandBeside modules n k l a.row a.col =
+        subst (λ (x : ℕ). StandBeside modules n k x a.row a.col) next_at
+        (beside_at whole count vdd modules n c a.row a.col meets.is_row (omega arith) (λ e. differ (e ∙ next_at))) in
         record {
           row = a.row;
           col = a.col;
           layer = meets.layer;
-          first_known = k_known;
-          second_known = l_known;
-          first_holds = h;
-          second_holds = subst (λ (x : ℕ). Holds (modules l) x (a.col + 1)) row (subst (λ (x : ℕ). Holds (modules l) b.row x) col j);
-          first_ends = ends;
-          second_begins = begins;
-          first = out_east k k_known a h meets.layer ends meets.carried meets.first;
+          beside = beside;
+          first = out_east k beside.first_known a beside.first_holds meets.layer beside.first_ends meets.carried meets.first;
           second =
-              ap (λ (x : ℕ). (modules l).border West (x - (modules l).row) meets.layer) (sym row)
-              ∙ out_west l l_known b j meets.layer (begins ∙ sym col) carried_west meets.second;
+              ap (λ (x : ℕ). (modules l).border West (x - (modules l).row) meets.layer) (sym meets.row)
+              ∙ out_west l beside.second_known b (here b east_row meets.is_col) meets.layer (beside.second_begins
+              ∙ sym col) carried_west meets.second;
         }
 
     pub east_names : name a ≡ name b
@@ -193,7 +191,7 @@ module _ (whole : Plan) (count vdd : ℕ) (modules : ℕ → PlacedModule) (n : 
           let j = subst (λ (k : ℕ). Holds (modules k) b.row b.col) (sym e) (here b east_row meets.is_col) in
           one_module_east (at_piece a) (known a meets.is_row east_col) a b (here a meets.is_row east_col) j meets
           ∙ ap (λ (k : ℕ). name_in (modules k) b) e
-      | inr differ ↦ c.eastward (net_of a) (net_of b) (two_modules_east differ)
+      | inr differ ↦ joined_east (net_of a) (net_of b) (two_modules_east differ)
     ]
 
   module _ (a b : Piece) (meets : MeetsAtSouth whole a b) where
@@ -209,52 +207,30 @@ module _ (whole : Plan) (count vdd : ℕ) (modules : ℕ → PlacedModule) (n : 
         let high = meets.is_row in
         subst (λ (x : ℕ). Carries (port_at (whole.tile x b.col) North) meets.layer) (sym meets.row)
         (subst (λ (x : ℕ). Carries (port_at (whole.tile (a.row + 1) x) North) meets.layer) (sym meets.col)
-        (subst (λ p. Carries p meets.layer) (c.is_plan.southward a.row a.col (omega arith) meets.is_col) meets.carried))
+        (subst (λ p. Carries p meets.layer) (is_plan.southward a.row a.col (omega arith) meets.is_col) meets.carried))
+
+    under_at : c.at (a.row + 1) a.col ≡ at_piece b
+    under_at = ap (λ (x : ℕ). c.at x a.col) (sym meets.row) ∙ ap (c.at b.row) (sym meets.col)
 
     two_modules_south : (at_piece a ≡ at_piece b → ⊥) → ModulesMeetSouth modules n (net_of a) (net_of b)
     two_modules_south differ =
         let k = at_piece a in
         let l = at_piece b in
-        let k_known = known a south_row meets.is_col in
-        let l_known = known b meets.is_row south_col in
-        let h = here a south_row meets.is_col in
-        let j = here b meets.is_row south_col in
         let row = meets.row in
-        let col = meets.col in
-        let k_row = h.from_row in
-        let k_high = h.to_row in
-        let k_col = h.from_col in
-        let k_end = h.to_col in
-        let l_row = j.from_row in
-        let l_high = j.to_row in
-        let l_col = j.from_col in
-        let l_end = j.to_col in
-        let ends : (modules k).row + (modules k).plan.rows ≡ a.row + 1 = elim (cases_lt (a.row + 1) ((modules k).row + (modules k).plan.rows)) [
-          | inl more ↦
-              absurd (differ (sym (c.once k b.row b.col k_known
-              (record { from_row = omega arith; to_row = omega arith; from_col = omega arith; to_col = omega arith }))))
-          | inr last ↦ omega arith
-        ] in
-        let begins : (modules l).row ≡ a.row + 1 = elim (cases_lt (modules l).row (a.row + 1)) [
-          | inl more ↦
-              absurd (differ (c.once l a.row a.col l_known
-              (record { from_row = omega arith; to_row = omega arith; from_col = omega arith; to_col = omega arith })))
-          | inr first ↦ omega arith
-        ] in
+        let high = meets.is_row in
+        let above : StandAbove modules n k l a.row a.col =
+        subst (λ (x : ℕ). StandAbove modules n k x a.row a.col) under_at
+        (above_at whole count vdd modules n c a.row a.col (omega arith) meets.is_col (λ e. differ (e ∙ under_at))) in
         record {
           row = a.row;
           col = a.col;
           layer = meets.layer;
-          first_known = k_known;
-          second_known = l_known;
-          first_holds = h;
-          second_holds = subst (λ (x : ℕ). Holds (modules l) x a.col) row (subst (λ (x : ℕ). Holds (modules l) b.row x) col j);
-          first_ends = ends;
-          second_begins = begins;
-          first = out_south k k_known a h meets.layer ends meets.carried meets.first;
+          above = above;
+          first = out_south k above.first_known a above.first_holds meets.layer above.first_ends meets.carried meets.first;
           second =
-              ap (λ (x : ℕ). (modules l).border North (x - (modules l).col) meets.layer) (sym col)
-              ∙ out_north l l_known b j meets.layer (begins ∙ sym row) carried_north meets.second;
+              ap (λ (x : ℕ). (modules l).border North (x - (modules l).col) meets.layer) (sym meets.col)
+              ∙ out_north l above.second_known b (here b meets.is_row south_col) meets.layer (above.second_begins
+              ∙ sym row) carried_north meets.second;
         }
 
     pub south_names : name a ≡ name b
@@ -263,24 +239,24 @@ module _ (whole : Plan) (count vdd : ℕ) (modules : ℕ → PlacedModule) (n : 
           let j = subst (λ (k : ℕ). Holds (modules k) b.row b.col) (sym e) (here b meets.is_row south_col) in
           one_module_south (at_piece a) (known a south_row meets.is_col) a b (here a south_row meets.is_col) j meets
           ∙ ap (λ (k : ℕ). name_in (modules k) b) e
-      | inr differ ↦ c.southward (net_of a) (net_of b) (two_modules_south differ)
+      | inr differ ↦ joined_south (net_of a) (net_of b) (two_modules_south differ)
     ]
 
   -- ---- homes
 
   -- the home of a net of a module
   abbrev home_of : (a : ModuleNet) → a.which < n → Piece
-  home_of a k = nets.home_piece whole count vdd c.is_plan (modules a.which) (c.placed a.which k) a.net
+  home_of a k = nets.home_piece whole count vdd is_plan (modules a.which) (c.placed a.which k) a.net
 
   module _ (a b : ModuleNet) (meets : ModulesMeetEast modules n a b) where
-    joins_east : Connected whole (home_of a meets.first_known) (home_of b meets.second_known)
+    joins_east : Connected whole (home_of a meets.beside.first_known) (home_of b meets.beside.second_known)
     joins_east =
         let k = modules a.which in
         let l = modules b.which in
-        let pk = c.placed a.which meets.first_known in
-        let pl = c.placed b.which meets.second_known in
-        let h = meets.first_holds in
-        let j = meets.second_holds in
+        let pk = c.placed a.which meets.beside.first_known in
+        let pl = c.placed b.which meets.beside.second_known in
+        let h = meets.beside.first_holds in
+        let j = meets.beside.second_holds in
         let k_row = h.from_row in
         let k_high = h.to_row in
         let k_col = h.from_col in
@@ -288,38 +264,39 @@ module _ (whole : Plan) (count vdd : ℕ) (modules : ℕ → PlacedModule) (n : 
         let l_row = j.from_row in
         let l_high = j.to_row in
         let l_end = j.to_col in
-        let ends = meets.first_ends in
-        let begins = meets.second_begins in
+        let ends = meets.beside.first_ends in
+        let begins = meets.beside.second_begins in
         let kr : meets.row - k.row < k.plan.rows = omega arith in
         let kc : k.plan.cols - 1 < k.plan.cols = omega arith in
         let lr : meets.row - l.row < l.plan.rows = omega arith in
         let lc : 0 < l.plan.cols = omega arith in
-        let one = nets.whole_piece whole count vdd c.is_plan k pk East (meets.row - k.row) meets.layer a.net kr kr kc meets.first in
-        let two = nets.whole_piece whole count vdd c.is_plan l pl West (meets.row - l.row) meets.layer b.net lr lr lc meets.second in
+        let one = nets.whole_piece whole count vdd is_plan k pk East (meets.row - k.row) meets.layer a.net kr kr kc meets.first in
+        let two = nets.whole_piece whole count vdd is_plan l pl West (meets.row - l.row) meets.layer b.net lr lr lc meets.second in
         let step : MeetsAtEast whole one two = record {
           layer = meets.layer;
           row = omega arith;
           col = omega arith;
-          is_row = nets.whole_row whole count vdd c.is_plan k pk East (meets.row - k.row) meets.layer a.net kr kr kc meets.first;
-          is_col = nets.whole_col whole count vdd c.is_plan l pl West (meets.row - l.row) meets.layer b.net lr lr lc meets.second;
-          carried = nets.whole_carries whole count vdd c.is_plan k pk East (meets.row - k.row) meets.layer a.net kr kr kc meets.first;
-          first = nets.whole_number whole count vdd c.is_plan k pk East (meets.row - k.row) meets.layer a.net kr kr kc meets.first;
-          second = nets.whole_number whole count vdd c.is_plan l pl West (meets.row - l.row) meets.layer b.net lr lr lc meets.second;
+          is_row = nets.whole_row whole count vdd is_plan k pk East (meets.row - k.row) meets.layer a.net kr kr kc meets.first;
+          is_col = nets.whole_col whole count vdd is_plan l pl West (meets.row - l.row) meets.layer b.net lr lr lc meets.second;
+          carried = nets.whole_carries whole count vdd is_plan k pk East (meets.row - k.row) meets.layer a.net kr kr kc meets.first;
+          first = nets.whole_number whole count vdd is_plan k pk East (meets.row - k.row) meets.layer a.net kr kr kc meets.first;
+          second = nets.whole_number whole count vdd is_plan l pl West (meets.row - l.row) meets.layer b.net lr lr lc meets.second;
         } in
-        let from = leads_back whole one (home_of a meets.first_known)
-        (nets.side_leads whole count vdd c.is_plan k pk East (meets.row - k.row) meets.layer a.net kr kr kc meets.first) in
-        let to = nets.side_leads whole count vdd c.is_plan l pl West (meets.row - l.row) meets.layer b.net lr lr lc meets.second in
-        goes_on whole (home_of a meets.first_known) one (home_of b meets.second_known) from (step_east one two (home_of b meets.second_known) step to)
+        let from = leads_back whole one (home_of a meets.beside.first_known)
+        (nets.side_leads whole count vdd is_plan k pk East (meets.row - k.row) meets.layer a.net kr kr kc meets.first) in
+        let to = nets.side_leads whole count vdd is_plan l pl West (meets.row - l.row) meets.layer b.net lr lr lc meets.second in
+        goes_on whole (home_of a meets.beside.first_known) one (home_of b meets.beside.second_known) from
+        (step_east one two (home_of b meets.beside.second_known) step to)
 
   module _ (a b : ModuleNet) (meets : ModulesMeetSouth modules n a b) where
-    joins_south : Connected whole (home_of a meets.first_known) (home_of b meets.second_known)
+    joins_south : Connected whole (home_of a meets.above.first_known) (home_of b meets.above.second_known)
     joins_south =
         let k = modules a.which in
         let l = modules b.which in
-        let pk = c.placed a.which meets.first_known in
-        let pl = c.placed b.which meets.second_known in
-        let h = meets.first_holds in
-        let j = meets.second_holds in
+        let pk = c.placed a.which meets.above.first_known in
+        let pl = c.placed b.which meets.above.second_known in
+        let h = meets.above.first_holds in
+        let j = meets.above.second_holds in
         let k_row = h.from_row in
         let k_high = h.to_row in
         let k_col = h.from_col in
@@ -327,29 +304,29 @@ module _ (whole : Plan) (count vdd : ℕ) (modules : ℕ → PlacedModule) (n : 
         let l_high = j.to_row in
         let l_col = j.from_col in
         let l_end = j.to_col in
-        let ends = meets.first_ends in
-        let begins = meets.second_begins in
+        let ends = meets.above.first_ends in
+        let begins = meets.above.second_begins in
         let kc : meets.col - k.col < k.plan.cols = omega arith in
         let kr : k.plan.rows - 1 < k.plan.rows = omega arith in
         let lc : meets.col - l.col < l.plan.cols = omega arith in
         let lr : 0 < l.plan.rows = omega arith in
-        let one = nets.whole_piece whole count vdd c.is_plan k pk South (meets.col - k.col) meets.layer a.net kc kr kc meets.first in
-        let two = nets.whole_piece whole count vdd c.is_plan l pl North (meets.col - l.col) meets.layer b.net lc lr lc meets.second in
+        let one = nets.whole_piece whole count vdd is_plan k pk South (meets.col - k.col) meets.layer a.net kc kr kc meets.first in
+        let two = nets.whole_piece whole count vdd is_plan l pl North (meets.col - l.col) meets.layer b.net lc lr lc meets.second in
         let step : MeetsAtSouth whole one two = record {
           layer = meets.layer;
           row = omega arith;
           col = omega arith;
-          is_row = nets.whole_row whole count vdd c.is_plan l pl North (meets.col - l.col) meets.layer b.net lc lr lc meets.second;
-          is_col = nets.whole_col whole count vdd c.is_plan k pk South (meets.col - k.col) meets.layer a.net kc kr kc meets.first;
-          carried = nets.whole_carries whole count vdd c.is_plan k pk South (meets.col - k.col) meets.layer a.net kc kr kc meets.first;
-          first = nets.whole_number whole count vdd c.is_plan k pk South (meets.col - k.col) meets.layer a.net kc kr kc meets.first;
-          second = nets.whole_number whole count vdd c.is_plan l pl North (meets.col - l.col) meets.layer b.net lc lr lc meets.second;
+          is_row = nets.whole_row whole count vdd is_plan l pl North (meets.col - l.col) meets.layer b.net lc lr lc meets.second;
+          is_col = nets.whole_col whole count vdd is_plan k pk South (meets.col - k.col) meets.layer a.net kc kr kc meets.first;
+          carried = nets.whole_carries whole count vdd is_plan k pk South (meets.col - k.col) meets.layer a.net kc kr kc meets.first;
+          first = nets.whole_number whole count vdd is_plan k pk South (meets.col - k.col) meets.layer a.net kc kr kc meets.first;
+          second = nets.whole_number whole count vdd is_plan l pl North (meets.col - l.col) meets.layer b.net lc lr lc meets.second;
         } in
-        let from = leads_back whole one (home_of a meets.first_known)
-        (nets.side_leads whole count vdd c.is_plan k pk South (meets.col - k.col) meets.layer a.net kc kr kc meets.first) in
-        let to = nets.side_leads whole count vdd c.is_plan l pl North (meets.col - l.col) meets.layer b.net lc lr lc meets.second in
-        goes_on whole (home_of a meets.first_known) one (home_of b meets.second_known) from
-        (step_south one two (home_of b meets.second_known) step to)
+        let from = leads_back whole one (home_of a meets.above.first_known)
+        (nets.side_leads whole count vdd is_plan k pk South (meets.col - k.col) meets.layer a.net kc kr kc meets.first) in
+        let to = nets.side_leads whole count vdd is_plan l pl North (meets.col - l.col) meets.layer b.net lc lr lc meets.second in
+        goes_on whole (home_of a meets.above.first_known) one (home_of b meets.above.second_known) from
+        (step_south one two (home_of b meets.above.second_known) step to)
 
   one_proof : (k : ℕ) (x y : k < n) → x ≡ y
   one_proof k x y = let prop : IsProp (k < n) = hlevel props in prop x y
@@ -360,19 +337,23 @@ module _ (whole : Plan) (count vdd : ℕ) (modules : ℕ → PlacedModule) (n : 
   joined_homes : (a b : ModuleNet) → ModulesJoin modules n a b → (x : a.which < n) (y : b.which < n) → Connected whole (home_of a x) (home_of b y)
   joined_homes _ _ (same a) x y = between a y x (home_of a y) (no_step (home_of a y))
   joined_homes _ _ (east a b d h rest) x y =
-      between a h.first_known x (home_of d y)
-      (goes_on whole (home_of a h.first_known) (home_of b h.second_known) (home_of d y) (joins_east a b h) (joined_homes b d rest h.second_known y))
+      between a h.beside.first_known x (home_of d y)
+      (goes_on whole (home_of a h.beside.first_known) (home_of b h.beside.second_known) (home_of d y) (joins_east a b h)
+      (joined_homes b d rest h.beside.second_known y))
   joined_homes _ _ (west a b d h rest) x y =
-      between a h.second_known x (home_of d y)
-      (goes_on whole (home_of a h.second_known) (home_of b h.first_known) (home_of d y)
-      (leads_back whole (home_of b h.first_known) (home_of a h.second_known) (joins_east b a h)) (joined_homes b d rest h.first_known y))
+      between a h.beside.second_known x (home_of d y)
+      (goes_on whole (home_of a h.beside.second_known) (home_of b h.beside.first_known) (home_of d y)
+      (leads_back whole (home_of b h.beside.first_known) (home_of a h.beside.second_known) (joins_east b a h))
+      (joined_homes b d rest h.beside.first_known y))
   joined_homes _ _ (south a b d h rest) x y =
-      between a h.first_known x (home_of d y)
-      (goes_on whole (home_of a h.first_known) (home_of b h.second_known) (home_of d y) (joins_south a b h) (joined_homes b d rest h.second_known y))
+      between a h.above.first_known x (home_of d y)
+      (goes_on whole (home_of a h.above.first_known) (home_of b h.above.second_known) (home_of d y) (joins_south a b h)
+      (joined_homes b d rest h.above.second_known y))
   joined_homes _ _ (north a b d h rest) x y =
-      between a h.second_known x (home_of d y)
-      (goes_on whole (home_of a h.second_known) (home_of b h.first_known) (home_of d y)
-      (leads_back whole (home_of b h.first_known) (home_of a h.second_known) (joins_south b a h)) (joined_homes b d rest h.first_known y))
+      between a h.above.second_known x (home_of d y)
+      (goes_on whole (home_of a h.above.second_known) (home_of b h.above.first_known) (home_of d y)
+      (leads_back whole (home_of b h.above.first_known) (home_of a h.above.second_known) (joins_south b a h))
+      (joined_homes b d rest h.above.first_known y))
 
   -- ---- the names
 
@@ -395,14 +376,14 @@ module _ (whole : Plan) (count vdd : ℕ) (modules : ℕ → PlacedModule) (n : 
     its = modules a.which
 
     home_exists : IsPiece whole (home_of a k)
-    home_exists = nets.home_exists whole count vdd c.is_plan its (c.placed a.which k) a.net few
+    home_exists = nets.home_exists whole count vdd is_plan its (c.placed a.which k) a.net few
 
     home_named : name (home_of a k) ≡ whole_net modules a
     home_named =
         let p = home_of a k in
         let there : at_piece p ≡ a.which = c.once a.which p.row p.col k
-        (nets.home_holds whole count vdd c.is_plan its (c.placed a.which k) a.net few) in
-        ap (λ (l : ℕ). name_in (modules l) p) there ∙ ap its.rename (nets.home_named whole count vdd c.is_plan its (c.placed a.which k) a.net few)
+        (nets.home_holds whole count vdd is_plan its (c.placed a.which k) a.net few) in
+        ap (λ (l : ℕ). name_in (modules l) p) there ∙ ap its.rename (nets.home_named whole count vdd is_plan its (c.placed a.which k) a.net few)
 
   pub are_names : AreNames whole count name
   are_names = record {
@@ -417,7 +398,7 @@ module _ (whole : Plan) (count vdd : ℕ) (modules : ℕ → PlacedModule) (n : 
         let m = modules (at_piece p) in
         let x = name p in
         let few : x < count = (placed p of.is_row of.is_col).below (local_name p) (below p of) in
-        let local = nets.leads_local whole count vdd c.is_plan m (c.placed (at_piece p) k) p (here p of.is_row of.is_col) of in
+        let local = nets.leads_local whole count vdd is_plan m (c.placed (at_piece p) k) p (here p of.is_row of.is_col) of in
         let far = joined_homes (net_of p) (c.home x) (c.leads (net_of p) k (below p of)) k (c.home_known x few) in
         subst (Connected whole p) (sym (home_is x few)) (goes_on whole p (home_of (net_of p) k) (home_of (c.home x) (c.home_known x few)) local far);
   }

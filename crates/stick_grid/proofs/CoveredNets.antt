@@ -22,10 +22,7 @@ use Rattle.stick_grid.proofs.PlanWindows.{keeps_plan}
 abbrev pub local_piece : PlacedModule → Piece → Piece
 local_piece m p = piece (p.row - m.row) (p.col - m.col) p.net
 
-module _ (whole : Plan) (count vdd : ℕ) (is : IsPlan whole) (m : PlacedModule) (placed : IsPlaced whole count vdd m) where
-  abbrev keeps : KeepsPlan m.plan whole m.row m.col
-  keeps = keeps_plan m.plan whole m.row m.col placed.window is
-
+module _ (whole : Plan) (count vdd : ℕ) (m : PlacedModule) (placed : IsPlaced whole count vdd m) where
   module _ (row col : ℕ) (holds : Holds m row col) where
     pub local_row : row - m.row < m.plan.rows
     local_row = let low = holds.from_row in let high = holds.to_row in omega arith
@@ -49,11 +46,6 @@ module _ (whole : Plan) (count vdd : ℕ) (is : IsPlan whole) (m : PlacedModule)
       let r = row_back p.row p.col h in
       let c = col_back p.row p.col h in
       λ i. record { row = r i; col = c i; net = p.net }
-
-  pub piece_here : (p : Piece) → Holds m p.row p.col → IsPiece whole p → IsPiece m.plan (local_piece m p)
-  piece_here p h of =
-      keeps.piece_back (local_piece m p) (local_row p.row p.col h) (local_col p.row p.col h)
-      (subst (IsPiece whole) (sym (moved_back p h)) of)
 
   -- nets that meet within the module
   pub meet_east_here : (a b : Piece) → Holds m a.row a.col → Holds m b.row b.col → MeetsAtEast whole a b
@@ -117,6 +109,15 @@ module _ (whole : Plan) (count vdd : ℕ) (is : IsPlan whole) (m : PlacedModule)
       (placed.is_module.border_is side q layer below ∙ h) in
       (carries_layer _ layer o.0, o.1)
 
+module _ (whole : Plan) (count vdd : ℕ) (is : IsPlan whole) (m : PlacedModule) (placed : IsPlaced whole count vdd m) where
+  abbrev keeps : KeepsPlan m.plan whole m.row m.col
+  keeps = keeps_plan m.plan whole m.row m.col placed.window is
+
+  pub piece_here : (p : Piece) → Holds m p.row p.col → IsPiece whole p → IsPiece m.plan (local_piece m p)
+  piece_here p h of =
+      keeps.piece_back (local_piece m p) (local_row whole count vdd m placed p.row p.col h) (local_col whole count vdd m placed p.row p.col h)
+      (subst (IsPiece whole) (sym (moved_back whole count vdd m placed p h)) of)
+
   -- ---- homes
 
   abbrev pub home_piece : ℕ → Piece
@@ -128,7 +129,7 @@ module _ (whole : Plan) (count vdd : ℕ) (is : IsPlan whole) (m : PlacedModule)
 
   pub leads_local : (p : Piece) → Holds m p.row p.col → IsPiece whole p → Connected whole p (home_piece (m.name (local_piece m p)))
   leads_local p h of =
-      subst (λ (q : Piece). Connected whole q (home_piece (m.name (local_piece m p)))) (moved_back p h)
+      subst (λ (q : Piece). Connected whole q (home_piece (m.name (local_piece m p)))) (moved_back whole count vdd m placed p h)
       (leads_home (local_piece m p) (piece_here p h of))
 
   module _ (net : ℕ) (few : net < m.count) where
@@ -157,30 +158,29 @@ module _ (whole : Plan) (count vdd : ℕ) (is : IsPlan whole) (m : PlacedModule)
   module _ (side : Side) (q : ℕ) (layer : Layer) (net : ℕ) (below : q < places_along m.plan side)
       (is_row : row_along m.plan side q < m.plan.rows) (is_col : col_along m.plan side q < m.plan.cols) (led : m.border side q layer ≡ Some net) where
     abbrev pub whole_piece : Piece
-    whole_piece = moved_piece m.row m.col (side_piece side q layer)
+    whole_piece = moved_piece m.row m.col (side_piece whole count vdd m placed side q layer)
 
-    is_piece : IsPiece m.plan (side_piece side q layer)
+    is_piece : IsPiece m.plan (side_piece whole count vdd m placed side q layer)
     is_piece = record {
       is_row = is_row;
       is_col = is_col;
       side = side;
       layer = layer;
-      carried = (out_carried side q layer net below led).0;
-      number =
-          refl;
+      carried = (out_carried whole count vdd m placed side q layer net below led).0;
+      number = refl;
     }
 
     -- It leads to the home of this net.
     pub side_leads : Connected whole whole_piece (home_piece net)
     side_leads =
-        subst (λ (x : ℕ). Connected whole whole_piece (home_piece x)) (out_carried side q layer net below led).1
-        (leads_home (side_piece side q layer) is_piece)
+        subst (λ (x : ℕ). Connected whole whole_piece (home_piece x)) (out_carried whole count vdd m placed side q layer net below led).1
+        (leads_home (side_piece whole count vdd m placed side q layer) is_piece)
 
     same_tile : m.plan.tile (row_along m.plan side q) (col_along m.plan side q) ≡ whole.tile whole_piece.row whole_piece.col
     same_tile = placed.window.tiles (row_along m.plan side q) (col_along m.plan side q) is_row is_col
 
     pub whole_carries : Carries (port_at (whole.tile whole_piece.row whole_piece.col) side) layer
-    whole_carries = subst (λ t. Carries (port_at t side) layer) same_tile (out_carried side q layer net below led).0
+    whole_carries = subst (λ t. Carries (port_at t side) layer) same_tile (out_carried whole count vdd m placed side q layer net below led).0
 
     pub whole_number : whole_piece.net ≡ side_net (design_of (whole.tile whole_piece.row whole_piece.col)) side layer
     whole_number = ap (λ t. side_net (design_of t) side layer) same_tile

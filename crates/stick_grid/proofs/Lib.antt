@@ -29,7 +29,9 @@ mod Mirrors
 mod MirroredDevices
 mod MirroredModules
 mod Carried
+mod SamePorts
 mod CoveredNets
+mod CoveredPlans
 mod CoveredNames
 mod CoveredBorders
 mod RenamedDevices

@@ -6,7 +6,7 @@ use Rattle.micro_tiles.specs.declared.side.Side.{Side}
 use Rattle.micro_tiles.specs.declared.side.Side.TheVariants.{North, East, South, West}
 use Rattle.switch_net.specs.Circuit.{renamed_device}
 use Rattle.switch_net.specs.declared.network.Device.{Device}
-use Rattle.stick_grid.specs.Plans.{Plan, IsPlan}
+use Rattle.stick_grid.specs.Plans.{Plan}
 use Rattle.stick_grid.specs.Pieces.{Piece}
 use Rattle.stick_grid.specs.Transistors.{piece}
 use Rattle.stick_grid.specs.Windows.{IsWindow}
@@ -38,6 +38,35 @@ pub record Holds (m : PlacedModule) (row col : ℕ) : Type 0 where
   pub from_col : m.col ≤ col
   pub to_col : col < m.col + m.plan.cols
 
+-- One module ends where another begins to the east of it, behind this place.
+pub record StandBeside (modules : ℕ → PlacedModule) (n : ℕ) (k l row col : ℕ) : Type 0 where
+  pub first_known : k < n
+  pub second_known : l < n
+  pub first_holds : Holds (modules k) row col
+  pub second_holds : Holds (modules l) row (col + 1)
+  pub first_ends : (modules k).col + (modules k).plan.cols ≡ col + 1
+  pub second_begins : (modules l).col ≡ col + 1
+
+-- One module ends where another begins to the south of it, below this place.
+pub record StandAbove (modules : ℕ → PlacedModule) (n : ℕ) (k l row col : ℕ) : Type 0 where
+  pub first_known : k < n
+  pub second_known : l < n
+  pub first_holds : Holds (modules k) row col
+  pub second_holds : Holds (modules l) (row + 1) col
+  pub first_ends : (modules k).row + (modules k).plan.rows ≡ row + 1
+  pub second_begins : (modules l).row ≡ row + 1
+
+-- the place along the side of the module at a place along the side of the whole
+abbrev pub place_in : PlacedModule → Side → ℕ → ℕ
+place_in m North place = place - m.col
+place_in m East place = place - m.row
+place_in m South place = place - m.col
+place_in m West place = place - m.row
+
+-- what leads out of the whole leads out of the module there
+abbrev pub border_in : PlacedModule → Border
+border_in m side place layer = option_map m.rename (m.border side (place_in m side place) layer)
+
 -- a net of one of the modules
 pub record ModuleNet : Type 0 where
   pub which : ℕ
@@ -47,33 +76,23 @@ pub record ModuleNet : Type 0 where
 abbrev pub whole_net : (ℕ → PlacedModule) → ModuleNet → ℕ
 whole_net modules a = (modules a.which).rename a.net
 
--- One module ends where another begins to the east of it, and in a layer the nets lead out to one another.
+-- The nets lead out to one another in a layer, from one module to the next one to the east.
 pub record ModulesMeetEast (modules : ℕ → PlacedModule) (n : ℕ) (a b : ModuleNet) : Type 0 where
   pub row : ℕ
   pub col : ℕ
   pub layer : Layer
-  pub first_known : a.which < n
-  pub second_known : b.which < n
-  pub first_holds : Holds (modules a.which) row col
-  pub second_holds : Holds (modules b.which) row (col + 1)
-  pub first_ends : (modules a.which).col + (modules a.which).plan.cols ≡ col + 1
-  pub second_begins : (modules b.which).col ≡ col + 1
-  pub first : (modules a.which).border East (row - (modules a.which).row) layer ≡ Some a.net
-  pub second : (modules b.which).border West (row - (modules b.which).row) layer ≡ Some b.net
+  pub beside : StandBeside modules n a.which b.which row col
+  pub first : (modules a.which).border East (place_in (modules a.which) East row) layer ≡ Some a.net
+  pub second : (modules b.which).border West (place_in (modules b.which) West row) layer ≡ Some b.net
 
--- One module ends where another begins to the south of it, and in a layer the nets lead out to one another.
+-- They do so from one module to the next one to the south.
 pub record ModulesMeetSouth (modules : ℕ → PlacedModule) (n : ℕ) (a b : ModuleNet) : Type 0 where
   pub row : ℕ
   pub col : ℕ
   pub layer : Layer
-  pub first_known : a.which < n
-  pub second_known : b.which < n
-  pub first_holds : Holds (modules a.which) row col
-  pub second_holds : Holds (modules b.which) (row + 1) col
-  pub first_ends : (modules a.which).row + (modules a.which).plan.rows ≡ row + 1
-  pub second_begins : (modules b.which).row ≡ row + 1
-  pub first : (modules a.which).border South (col - (modules a.which).col) layer ≡ Some a.net
-  pub second : (modules b.which).border North (col - (modules b.which).col) layer ≡ Some b.net
+  pub above : StandAbove modules n a.which b.which row col
+  pub first : (modules a.which).border South (place_in (modules a.which) South col) layer ≡ Some a.net
+  pub second : (modules b.which).border North (place_in (modules b.which) North col) layer ≡ Some b.net
 
 -- Nets of modules that meet, one after another, lead from the first to the second.
 pub data ModulesJoin (modules : ℕ → PlacedModule) (n : ℕ) : ModuleNet → ModuleNet → Type 0 where
@@ -83,10 +102,9 @@ pub data ModulesJoin (modules : ℕ → PlacedModule) (n : ℕ) : ModuleNet → 
   south : (a b c : ModuleNet) → ModulesMeetSouth modules n a b → ModulesJoin modules n b c → ModulesJoin modules n a c
   north : (a b c : ModuleNet) → ModulesMeetSouth modules n b a → ModulesJoin modules n b c → ModulesJoin modules n a c
 
--- Each place of the plan lies in one of the modules. Nets that meet are one net of the whole, and each leads to one, the home, of its
--- net of the whole.
+-- Each place of the plan lies in one of the modules. Where one ends and another begins, the same nets of the whole lead out of both, in the
+-- same layers. Each net of a module leads to one, the home, of its net of the whole.
 pub record AreCovering (whole : Plan) (count vdd : ℕ) (modules : ℕ → PlacedModule) (n : ℕ) : Type 0 where
-  pub is_plan : IsPlan whole
   pub some_row : 1 ≤ whole.rows
   pub some_col : 1 ≤ whole.cols
   pub placed : (k : ℕ) → k < n → IsPlaced whole count vdd (modules k)
@@ -94,8 +112,10 @@ pub record AreCovering (whole : Plan) (count vdd : ℕ) (modules : ℕ → Place
   pub known : (row col : ℕ) → row < whole.rows → col < whole.cols → at row col < n
   pub holds : (row col : ℕ) → row < whole.rows → col < whole.cols → Holds (modules (at row col)) row col
   pub once : (k row col : ℕ) → k < n → Holds (modules k) row col → at row col ≡ k
-  pub eastward : (a b : ModuleNet) → ModulesMeetEast modules n a b → whole_net modules a ≡ whole_net modules b
-  pub southward : (a b : ModuleNet) → ModulesMeetSouth modules n a b → whole_net modules a ≡ whole_net modules b
+  pub eastward : (k l row col : ℕ) (layer : Layer) → StandBeside modules n k l row col
+      → border_in (modules k) East row layer ≡ border_in (modules l) West row layer
+  pub southward : (k l row col : ℕ) (layer : Layer) → StandAbove modules n k l row col
+      → border_in (modules k) South col layer ≡ border_in (modules l) North col layer
   pub home : ℕ → ModuleNet
   pub home_known : (net : ℕ) → net < count → (home net).which < n
   pub home_below : (net : ℕ) → net < count → (home net).net < (modules (home net).which).count
@@ -116,21 +136,10 @@ devices_in m = map (renamed_device m.rename) m.devices
 abbrev pub whole_devices : (ℕ → PlacedModule) → ℕ → List Device
 whole_devices modules n = flat_map (λ k. devices_in (modules k)) (range_with_len 0 n)
 
--- the place along the side of the module at a place along the side of the whole
-abbrev pub place_in : PlacedModule → Side → ℕ → ℕ
-place_in m North place = place - m.col
-place_in m East place = place - m.row
-place_in m South place = place - m.col
-place_in m West place = place - m.row
-
--- what leads out of the whole leads out of the module there
-abbrev pub border_in : PlacedModule → Border
-border_in m side place layer = option_map m.rename (m.border side (place_in m side place) layer)
-
 abbrev pub whole_border : Plan → (ℕ → PlacedModule) → (ℕ → ℕ → ℕ) → Border
 whole_border whole modules at side place layer = border_in (modules (at (row_along whole side place) (col_along whole side place))) side place layer
 
--- Modules that cover a plan make it a module, with the devices of all of them.
+-- Modules that cover a plan make it a module, and so a plan whose neighbouring tiles meet, with the devices of all of them.
 abbrev pub CoveringsAreModules : Type 0
 CoveringsAreModules = (whole : Plan) (count vdd : ℕ) (modules : ℕ → PlacedModule) (n : ℕ) (c : AreCovering whole count vdd modules n)
     → IsModule whole count (whole_name modules c.at) vdd (whole_devices modules n) (whole_border whole modules c.at)
