@@ -38,3 +38,4 @@ mod RenamedDevices
 mod CoveredDevices
 mod CoveredModules
 mod LabelledModules
+mod SameModules

@@ -1,5 +1,5 @@
 -- What is drawn of a network: a plan whose nets have names, with its devices and its border.
-use Rattle.std.specs.Prelude.{◌≡◌, ℕ, ◌-◌, ◌<◌, List, map, Option, option_map, IsPermutation}
+use Rattle.std.specs.Prelude.{◌≡◌, ℕ, ◌-◌, ◌<◌, ◌≤◌, List, map, Option, option_map, IsPermutation}
 use Rattle.geom.specs.declared.layer.Layer.{Layer}
 use Rattle.micro_tiles.specs.declared.side.Side.{Side}
 use Rattle.micro_tiles.specs.declared.side.Side.TheVariants.{North, East, South, West}
@@ -12,6 +12,7 @@ use Rattle.stick_grid.specs.Pieces.{Piece}
 use Rattle.stick_grid.specs.Transistors.{piece}
 use Rattle.stick_grid.specs.Names.{AreNames}
 use Rattle.stick_grid.specs.Devices.{transistors_of, IsNamedDevice}
+use Rattle.stick_grid.specs.Windows.{HaveSameTiles}
 
 -- how many tiles the plan has along a side
 abbrev pub places_along : Plan → Side → ℕ
@@ -50,4 +51,10 @@ pub record IsModule (plan : Plan) (count : ℕ) (name : Piece → ℕ) (vdd : �
   pub drawn : List Device
   pub transistors : Matched (IsNamedDevice name vdd) (transistors_of plan) drawn
   pub as_drawn : IsPermutation (map ascending drawn) (map ascending devices)
-  pub border_is : (side : Side) (place : ℕ) (layer : Layer) → place < places_along plan side → net_along plan name side place layer ≡ border side place layer
+  pub border_is : (side : Side) (place : ℕ) (layer : Layer) → place < places_along plan side
+      → net_along plan name side place layer ≡ border side place layer
+
+-- A plan with the same tiles is the same module.
+abbrev pub SameTilesAreModules : Type 0
+SameTilesAreModules = (one other : Plan) (count : ℕ) (name : Piece → ℕ) (vdd : ℕ) (devices : List Device) (border : Border) → HaveSameTiles one other
+    → 1 ≤ one.rows → 1 ≤ one.cols → IsModule one count name vdd devices border → IsModule other count name vdd devices border

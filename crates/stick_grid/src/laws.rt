@@ -5,6 +5,7 @@ ghost use Rattle.stick_grid.specs.Depicted.{PlansStandForNetworks, PortsHaveSqua
 ghost use Rattle.stick_grid.specs.Devices.{TransistorsAreChannels};
 ghost use Rattle.stick_grid.specs.LabelledModules.{ModulesStandForNetworks};
 ghost use Rattle.stick_grid.specs.Mirrors.{MirrorsAreModules};
+ghost use Rattle.stick_grid.specs.Modules.{SameTilesAreModules};
 ghost use Rattle.stick_grid.specs.Names.{NamesAreNets, PiecesHaveSquares, PlansHavePaths};
 ghost use Rattle.stick_grid.specs.Pieces.{PlansHavePieces, SquaresAreNets};
 ghost use Rattle.stick_grid.specs.PlacedModules.{CoveringsAreModules};
@@ -51,6 +52,7 @@ pub fn windows_keep_plans()
 /// Plans with the same tiles agree in all that is said of plans, and a plan of no more than 2^20 rows and columns has a tiling.
 pub fn same_tiles_agree()
     ensures plans { SameTilesAgree }
+    ensures modules { SameTilesAreModules }
     ensures tilings { PlansAreTilings }
 {}
 
