@@ -4,9 +4,10 @@ ghost use Rattle.std.specs.Prelude.{◌≡◌, ◌≤◌, ◌^◌, ◌++◌, IfO
 ghost use Rattle.stick_grid.specs.Windows.{tiling_of};
 ghost use Rattle.gate_matrix.specs.Cells.{row_tiles};
 ghost use Rattle.gate_matrix.specs.Drawn.{FitsPart, part_plan};
+ghost use Rattle.gate_matrix.specs.Modules.{IsPartGrid};
 
 use crate::column::{Column, columns_of};
-use crate::laws::matrices_are_plans;
+use crate::laws::{matrices_are_plans, parts_are_modules};
 use crate::part_rows::part_rows;
 use crate::row::{Row, cell};
 use micro_tiles::Tile;
@@ -17,7 +18,8 @@ use stick_grid::Grid;
 use stick_grid::laws::same_tiles_agree;
 
 /// The part as a grid of tiles. Each net has poly from the north to the south border in the column that `at` has for it, and the
-/// devices that it gates in the column behind; columns 0 and 1 hold loads. Rows that the part does not need stand north.
+/// devices that it gates in the column behind; columns 0 and 1 hold loads. Rows that the part does not need stand north. The nets and
+/// devices of the tiles are the part's.
 ///
 /// # Errors
 ///
@@ -26,10 +28,12 @@ pub fn draw(alloc: Global, part: &Part, at: &[u32], rows: u32, cols: u32) -> Res
     requires few_rows { rows ≤ 2 ^ 20 }
     requires few_cols { cols ≤ 2 ^ 20 }
     requires room { FitsPart part.now at.now rows cols }
-    ensures { IfOk result (λ grid. grid ≡ tiling_of (part_plan part.now at.now rows cols)) }
+    ensures tiles { IfOk result (λ grid. grid ≡ tiling_of (part_plan part.now at.now rows cols)) }
+    ensures network { IfOk result (IsPartGrid part.now at.now rows cols) }
 {
     same_tiles_agree();
     matrices_are_plans();
+    parts_are_modules();
     let columns = columns_of(alloc, at, cols)?;
     let list = part_rows(alloc, part, rows)?;
     let mut tiles = Vec::new(alloc);

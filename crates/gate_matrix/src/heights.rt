@@ -3,6 +3,7 @@
 ghost use Rattle.std.specs.Prelude.{◌≡◌, ◌≤◌, ◌*◌, ◌^◌, [], sum_by, ◌==◌};
 ghost use Rattle.std.specs.List.{list_any};
 ghost use Rattle.nor_net.specs.Evaluation.{is_output};
+ghost use Rattle.nor_net.specs.Part.{IsPart};
 ghost use Rattle.gate_matrix.specs.PartRows.{has_load, height_of_gate, height_of_gates, height_of_load, height_of_part, width_of_part};
 
 use nor_net::{Gate, Part};
@@ -13,6 +14,7 @@ use nor_net::{Gate, Part};
 pub fn needed(part: &Part) -> (u32, u32)
     ensures rows { result.0 ≡ height_of_part part.now }
     ensures cols { result.1 ≡ width_of_part part.now }
+    ensures part { IsPart part.now }
 {
     let transfers = part.transfers().len() as u32;
     let rows = gates_height(part) + loads_height(part) + 3 * transfers;

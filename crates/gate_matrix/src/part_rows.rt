@@ -2,7 +2,7 @@
 
 ghost use Rattle.std.specs.Prelude.{◌≡◌, ◌≤◌, ◌-◌, ◌+◌, ◌++◌, [], ◌∷◌, flat_map, replicate, IfOk, OnOk};
 ghost use Rattle.gate_matrix.specs.PartRows.{height_of_part, rows_of_part, rows_of_gate, rows_of_gates, rows_of_load, rows_of_transfer};
-ghost use Rattle.nor_net.specs.Part.{clock_net};
+ghost use Rattle.nor_net.specs.Part.{IsPart, clock_net};
 ghost use Rattle.gate_matrix.specs.declared.row.RowKind.TheVariants.{Middle, Bottom};
 ghost use Rattle.gate_matrix.specs.Rows.{blank_row, closed_row, load_rows, device_rows, gate_rows};
 
@@ -15,7 +15,8 @@ use std::alloc::Global;
 /// The rows of the part, behind those that it does not need.
 pub(crate) fn part_rows(alloc: Global, part: &Part, rows: u32) -> Result<Vec<Row>, NoMemory>
     requires { height_of_part part.now ≤ rows }
-    ensures { IfOk result (λ list. list.items ≡ replicate (rows - height_of_part part.now) blank_row ++ rows_of_part part.now) }
+    ensures rows { IfOk result (λ list. list.items ≡ replicate (rows - height_of_part part.now) blank_row ++ rows_of_part part.now) }
+    ensures part { IsPart part.now }
 {
     let mut list = blank_rows(alloc, rows - needed(part).0)?;
     add_gates(alloc, part, &mut list)?;
