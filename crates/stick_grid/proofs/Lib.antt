@@ -39,3 +39,4 @@ mod CoveredDevices
 mod CoveredModules
 mod LabelledModules
 mod SameModules
+mod PlainModules

@@ -13,6 +13,7 @@ pub mod Modules
 pub mod Mirrors
 pub mod PlacedModules
 pub mod LabelledModules
+pub mod PlainModules
 -- Definitions that serve private contracts alone:
 pub mod PieceGraph
 pub mod NetMaps

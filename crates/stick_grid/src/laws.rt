@@ -9,6 +9,7 @@ ghost use Rattle.stick_grid.specs.Modules.{SameTilesAreModules};
 ghost use Rattle.stick_grid.specs.Names.{NamesAreNets, PiecesHaveSquares, PlansHavePaths};
 ghost use Rattle.stick_grid.specs.Pieces.{PlansHavePieces, SquaresAreNets};
 ghost use Rattle.stick_grid.specs.PlacedModules.{CoveringsAreModules};
+ghost use Rattle.stick_grid.specs.PlainModules.{EmptyPlansAreModules, PolyRowsAreModules};
 ghost use Rattle.stick_grid.specs.Transistors.{ChannelsAreOfTiles, TransistorsArePlaced};
 ghost use Rattle.stick_grid.specs.Windows.{PlansAreTilings, SameTilesAgree, WindowsKeepPlans};
 
@@ -76,4 +77,10 @@ pub fn coverings_are_modules()
 /// A module with labels at its border stands for the network with its devices and the pads of the labels.
 pub fn modules_stand_for_networks()
     ensures { ModulesStandForNetworks }
+{}
+
+/// Plans of empty tiles and rows of poly are modules without devices.
+pub fn plain_modules()
+    ensures empty { EmptyPlansAreModules }
+    ensures poly { PolyRowsAreModules }
 {}
