@@ -21,3 +21,4 @@ pub mod PartRowsFine
 pub mod PartDevices
 pub mod PartLoads
 pub mod PartModules
+pub mod OpenGate

@@ -7,3 +7,4 @@ pub mod PartRows
 pub mod Drawn
 pub mod MatrixNets
 pub mod Modules
+pub mod Examples

@@ -4,6 +4,7 @@
 
 pub mod column;
 pub mod drawing;
+pub mod examples;
 pub mod heights;
 pub mod laws;
 pub mod part_rows;
