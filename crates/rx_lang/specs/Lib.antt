@@ -4,6 +4,7 @@ pub mod Expression
 pub mod Meaning
 pub mod Specification
 pub mod Copies
+pub mod Positions
 pub mod Tables
 pub mod VectorWords
 pub mod Laws

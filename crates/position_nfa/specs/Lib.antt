@@ -1,0 +1,9 @@
+-- Definitions that public contracts cite:
+pub mod Automaton
+pub mod Terms
+pub mod Agreement
+-- Definitions that serve private contracts alone:
+pub mod LeafRows
+pub mod Summaries
+pub mod Waiting
+pub mod TreeParts
