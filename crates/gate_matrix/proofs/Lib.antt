@@ -22,3 +22,4 @@ pub mod PartDevices
 pub mod PartLoads
 pub mod PartModules
 pub mod OpenGate
+pub mod EndedGate
