@@ -12,13 +12,11 @@ const REFUSED: &[&str] = &[
     "S1@2:2 line x;\r\n\t%",
     "S1@1:1 \u{feff}line x;",
     "S1@4:6 line x;\nsymbol a = 1;\noutput z;\nexpr A !z;\n",
-    "S1@2:13 line x;\nsymbol a = 12;\noutput z;\nexpr a;",
     "S1@4:12 line x;\nsymbol a = 1;\noutput z;\nexpr (a | a\0)* a;",
     "S1@6:1 line x;\nsymbol a = 1;\noutput z;\nexpr a;\n# \u{ff}\n&",
     "S1@4:2 line x; # a\nline y;\n\n \x0b",
     "S1@1:1 $",
     "S1@1:12 line x y x $",
-    "S1@1:18 line x;symbol a=12;output z;expr a;",
     "S1@1:6 line X;",
     "S1@1:6 line _x;",
     "S1@1:34 line x;symbol a=1;output z;expr a\0;",
@@ -163,6 +161,12 @@ const REFUSED: &[&str] = &[
     "S14@1:233 line x;symbol a=1;output z;expr <100000*(>a<100000*)>;",
 ];
 
+/// Where no digit but `0` and `1` begins a token.
+const REFUSED_DIGITS: &[&str] = &[
+    "S1@2:13 line x;\nsymbol a = 12;\noutput z;\nexpr a;",
+    "S1@1:18 line x;symbol a=12;output z;expr a;",
+];
+
 /// Where they may have so many.
 const LIMITED: &[(u32, &str)] = &[
     (
@@ -243,11 +247,37 @@ pub(crate) fn outcomes(
     Ok((wanted, outcome(alloc, text.as_str(), most_leaves)?))
 }
 
+/// The outcome one line lower.
+fn lower(alloc: Global, outcome: &str) -> Result<String, Fail> {
+    let (code, place) = outcome.split_once('@').ok_or("no place")?;
+    let (line, column) = place.split_once(':').ok_or("no column")?;
+    let line = u64::from(line.parse::<u32>()?) + 1;
+    Ok(format!(in alloc; "{code}@{line}:{column}")?)
+}
+
+/// The outcome that the row says one line lower, and that of its text under version 2.
+fn outcomes_below(alloc: Global, row: &'static str) -> Result<(String, String), Fail> {
+    let (wanted, text) = row.split_once(' ').ok_or("no text")?;
+    let text = format!(in alloc; "version 2;\n{}", expanded(alloc, text)?.as_str())?;
+    Ok((lower(alloc, wanted)?, outcome(alloc, text.as_str(), 4096)?))
+}
+
 #[test]
 fn refuses_with_codes_and_places(rt: HostRuntime) -> Result<(), Fail> {
+    for rows in [REFUSED, REFUSED_DIGITS] {
+        for row in rows {
+            let (wanted, found) = outcomes(rt.alloc(), row, 4096)?;
+            assert_eq!(rt; found.as_str(), wanted, "{row}");
+        }
+    }
+    Ok(())
+}
+
+#[test]
+fn refuses_the_same_in_version_2(rt: HostRuntime) -> Result<(), Fail> {
     for row in REFUSED {
-        let (wanted, found) = outcomes(rt.alloc(), row, 4096)?;
-        assert_eq!(rt; found.as_str(), wanted, "{row}");
+        let (wanted, found) = outcomes_below(rt.alloc(), row)?;
+        assert_eq!(rt; found.as_str(), wanted.as_str(), "{row}");
     }
     Ok(())
 }
