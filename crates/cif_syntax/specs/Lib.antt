@@ -1,0 +1,7 @@
+-- Definitions that public contracts cite:
+pub mod Ends
+-- Definitions that serve private contracts alone:
+pub mod Kinds
+pub mod Slots
+pub mod Machine
+pub mod Runs
