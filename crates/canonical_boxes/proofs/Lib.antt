@@ -1,0 +1,9 @@
+pub mod Lists
+pub mod Chosen
+pub mod Parted
+pub mod Runs
+pub mod Counts
+pub mod Pairs
+pub mod Leads
+pub mod Sweeps
+pub mod Queries

@@ -1,0 +1,10 @@
+-- Definitions that public contracts cite:
+pub mod Canonical
+pub mod Touches
+pub mod Located
+pub mod Laws
+-- Definitions that serve private contracts alone:
+pub mod Chosen
+pub mod Standing
+pub mod Sweeps
+pub mod Queries

@@ -1,0 +1,14 @@
+//! Sets of unit squares as boxes that are the runs of their rows, and questions about them that list no squares.
+#![tactic(auto)]
+
+mod canonical;
+pub mod laws;
+mod locating;
+mod standing;
+mod sweep;
+mod touching;
+
+pub use canonical::Canonical;
+pub use locating::locate;
+pub use rx_text::NoMemory;
+pub use touching::{Touch, touches};
