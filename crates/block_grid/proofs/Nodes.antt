@@ -219,3 +219,11 @@ no_north s r c k d lt none = zero_unless _ (λ some. let any : is_crossed_north 
 pub no_west : (s : Sheet) (r c k : ℕ) (d : DrawnEdge) → k < length s.edges → is_crossed_west s r c ≡ false → west_of (get_or s.edges k d) r c ≡ 0
 no_west s r c k d lt none = zero_unless _ (λ some. let any : is_crossed_west s r c ≡ true = list_any_at (λ e. nat_lt 0
     (west_of e r c)) s.edges k d lt some in cc)
+
+-- no two nodes stand at one place
+pub stand_apart : (s : Sheet) → IsSheet s → (v w : ℕ) (p : BlockPlace) → stands_at s.nodes v ≡ Some p → stands_at s.nodes w ≡ Some p → v ≡ w
+stand_apart s sheet v w p a b = by (node_on s.nodes (row_of p) (col_of p)) refl
+  where
+    by : (o : Option Standing) → node_on s.nodes (row_of p) (col_of p) ≡ o → v ≡ w
+    by None e = absurd (on_place s.nodes v p a e)
+    by (Some n) e = sym (on_own_place s sheet v p n a e) ∙ on_own_place s sheet w p n b e

@@ -184,7 +184,8 @@ impl Blocks {
 
     /// The row and the column of the node, or none where it is not there.
     pub fn place_of(&self, node: u32) -> Option<(u32, u32)>
-        ensures { result ≡ stands_at self.now.nodes node }
+        ensures place { result ≡ stands_at self.now.nodes node }
+        ensures sheet { IsSheet self.now }
     {
         standing::stands_at(&self.nodes, node)
     }

@@ -1,10 +1,11 @@
 //! Laws of sheets of blocks. Each is the contract of a function that does nothing.
 
 ghost use Rattle.std.specs.Prelude.{◌≡◌, ◌+◌, ◌<◌, ◌≤◌, ℕ, true, false, Some, if◌then◌else◌};
+ghost use Rattle.std.specs.Option.{option_map};
 ghost use Rattle.block_grid.specs.declared.kind.BlockKind.TheVariants.{Empty, Horizontal, Vertical};
-ghost use Rattle.block_grid.specs.Changes.{shifted, with_cols, with_rows};
+ghost use Rattle.block_grid.specs.Changes.{cols_shifted, rows_shifted, shifted, with_cols, with_rows};
 ghost use Rattle.block_grid.specs.Lines.{BlockPlace, col_of, row_of};
-ghost use Rattle.block_grid.specs.Sheets.{IsInOpen, IsOutOpen, IsSheet, Sheet, block_at, is_crossed_north, is_crossed_west, stands_at};
+ghost use Rattle.block_grid.specs.Sheets.{IsInOpen, IsOnSheet, IsOutOpen, IsSheet, Sheet, block_at, is_crossed_north, is_crossed_west, stands_at};
 
 /// Rows and columns that come in lengthen the bundles that cross there and hold nothing else; each block of before is kept.
 pub fn insertion_lengthens_bundles()
@@ -32,4 +33,16 @@ pub fn open_ports_are_uncrossed()
         → is_crossed_north s (row_of p + 1) (col_of p) ≡ false }
     ensures north { (s : Sheet) → IsSheet s → (v : ℕ) (p : BlockPlace) → stands_at s.nodes v ≡ Some p → IsInOpen s v
         → is_crossed_north s (row_of p) (col_of p) ≡ false }
+{}
+
+/// Rows and columns that come in move the nodes behind them, and no others.
+pub fn insertion_moves_nodes()
+    ensures rows { (s : Sheet) (at by v : ℕ) → stands_at (with_rows s at by).nodes v ≡ option_map (rows_shifted at by) (stands_at s.nodes v) }
+    ensures cols { (s : Sheet) (at by v : ℕ) → stands_at (with_cols s at by).nodes v ≡ option_map (cols_shifted at by) (stands_at s.nodes v) }
+{}
+
+/// Nodes stand on the sheet, no two at one place.
+pub fn nodes_stand_apart()
+    ensures inside { (s : Sheet) → IsSheet s → (v : ℕ) (p : BlockPlace) → stands_at s.nodes v ≡ Some p → IsOnSheet s p }
+    ensures apart { (s : Sheet) → IsSheet s → (v w : ℕ) (p : BlockPlace) → stands_at s.nodes v ≡ Some p → stands_at s.nodes w ≡ Some p → v ≡ w }
 {}

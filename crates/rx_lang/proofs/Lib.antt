@@ -12,3 +12,4 @@ pub mod WordCuts
 pub mod Alike
 pub mod Copying
 pub mod Bounds
+mod SquareLines

@@ -5,6 +5,7 @@ pub mod Meaning
 pub mod Specification
 pub mod Copies
 pub mod Positions
+pub mod Squares
 pub mod Tables
 pub mod VectorWords
 pub mod Laws

@@ -1,7 +1,8 @@
 //! Laws of the meaning of expressions. Each is the contract of a function that does nothing.
 //! The letters are input vectors under any table of symbols, and the occurrences of symbols.
 
-ghost use Rattle.std.specs.Prelude.{◌≡◌, ℕ, List};
+ghost use Rattle.std.specs.Prelude.{◌≡◌, ◌+◌, ◌*◌, ◌^◌, ℕ, List, [], ◌∷◌, map};
+ghost use Rattle.rx_lang.specs.Squares.{most_lines};
 ghost use Rattle.rx_lang.specs.Expression.{Expr};
 ghost use Rattle.rx_lang.specs.Copies.{IsBounded, copied, occurrences};
 ghost use Rattle.rx_lang.specs.Meaning.{Spells};
@@ -55,4 +56,10 @@ pub fn copies_mean_their_repeats()
 pub fn trees_are_made_of_their_children()
     ensures made { TreesAreMade }
     ensures bounded { (tables : Tables) (k : ℕ) → IsSpecification tables → IsBounded (tree_at (trees tables.nodes) k) }
+{}
+
+/// The most lines of squares, written out for layouts of up to 4096 leaves, and for all sizes.
+pub fn most_lines_written_out()
+    ensures few { map most_lines (0 ∷ 1 ∷ 2 ∷ 3 ∷ 4 ∷ 5 ∷ 6 ∷ 7 ∷ []) ≡ 1 ∷ 11 ∷ 37 ∷ 95 ∷ 217 ∷ 467 ∷ 973 ∷ 1991 ∷ [] }
+    ensures all { (j : ℕ) → most_lines j + 6 * j + 15 ≡ 16 * 2 ^ j }
 {}

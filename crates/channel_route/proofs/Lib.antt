@@ -1,0 +1,5 @@
+mod Lines
+mod Passing
+mod Rooms
+mod Drawings
+mod Ordered

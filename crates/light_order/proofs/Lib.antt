@@ -1,0 +1,13 @@
+mod Made
+mod Uses
+mod Kids
+mod Parts
+mod Unrolled
+mod ChildrenAt
+mod Counted
+mod Places
+mod Powers
+mod Held
+mod Bounds
+mod Spread
+mod Parents
