@@ -3,17 +3,19 @@ use Rattle.std.proofs.Common.{◌≡◌, ◌⊎◌, inl, inr, ℕ, ◌≢◌, �
 use Rattle.std.specs.Prelude.{Option, Some, None, IfSome}
 use Rattle.std.proofs.Math.ListN.{set}
 use Rattle.std.proofs.lemmas.Bool.{cases_eq}
-use Rattle.switch_net.specs.Ternary.{level_of}
+use Rattle.switch_net.specs.Circuit.{Circuit}
+use Rattle.switch_net.specs.Ternary.{level_of, may_be_high, possible}
 use Rattle.switch_net.specs.declared.network.Device.{Device}
 use Rattle.switch_net.specs.declared.network.Level.{Level}
 use Rattle.switch_net.specs.declared.network.Level.TheVariants.{Low, High, Unknown}
 use Rattle.switch_sim.specs.Grouping.{told_at}
 use Rattle.switch_sim.specs.Simulation.{level_at}
-use Rattle.switch_sim.specs.Sweeping.{TellsAt}
+use Rattle.switch_sim.specs.ToldLevels.{TellsAt}
 use Rattle.switch_sim.specs.Gating.{IsGatedBy, IsLeastGated}
-use Rattle.switch_sim.specs.Incidence.{EndsAt}
+use Rattle.switch_sim.specs.Incidence.{one_end, other_end}
 use Rattle.switch_sim.specs.Waiting.{Waits}
-use Rattle.switch_sim.specs.DueNets.{AreWoken, AllAreWoken, Wakes, Remain}
+use Rattle.switch_sim.specs.DueNets.{IsHeld, IsWoken, AreWoken, AllAreWoken, Wakes, Remain}
+use Rattle.switch_sim.proofs.AtGates.{at_gate}
 use Rattle.switch_sim.proofs.WaitingNets.{waits_more}
 
 pub none_wakes : (seen : List Bool) (next : List ℕ) → Wakes seen next seen next
@@ -43,18 +45,6 @@ only_unset seen net k lt e =
       | inr apart ↦ sym (get_or-set_other seen net k false false apart) ∙ e
     ]
 
--- one net more is due, and waits
-pub one_wakes : (seen : List Bool) (next next_new : List ℕ) (net : ℕ) → net < length seen → Waits next_new net
-    → ((k : ℕ) → Waits next k → Waits next_new k) → Wakes seen next (set seen net false) next_new
-one_wakes seen next next_new net lt here kept = record {
-  only = λ k e. only_unset seen net k lt e;
-  listed = λ k e. elim (cases_eq k net) [
-    | inl same ↦ inr (subst (Waits next_new) (sym same) here)
-    | inr apart ↦ inl (sym (get_or-set_other seen net k false false apart) ∙ e)
-  ];
-  kept = kept;
-}
-
 pub still_due : (a b : Bool) → (b ≡ true → a ≡ true) → a ≡ false → b ≡ false
 still_due a true only e = absurd (let f = only refl in cc)
 still_due a false only e = refl
@@ -64,29 +54,46 @@ due_more a x b y wakes net e = still_due (get_or a net false) (get_or b net fals
 
 -- ---- the devices that a net gates, one after another
 
-module _ (devices : List Device) (net : ℕ) where
-  -- the ends of the devices from this one on that the net gates are due
-  abbrev pub AreWokenFrom : ℕ → List Bool → Type 0
-  AreWokenFrom behind seen = (d : ℕ) (x : Device) → d < length devices → IsGatedBy (get_or devices d x) net
-      → ((end : ℕ) → EndsAt (get_or devices d x) end → get_or seen end false ≡ false) ⊎ (d < behind)
+module _ (circuit : Circuit) (drives : List Bool) (levels : List Level) where
+  pub woken_more : (a : List Bool) (x : List ℕ) (b : List Bool) (y : List ℕ) → Wakes a x b y → (gate end other : ℕ)
+      → IsWoken circuit drives levels a gate end other → IsWoken circuit drives levels b gate end other
+  woken_more a x b y wakes gate end other (inl due) = inl (due_more a x b y wakes end due)
+  woken_more a x b y wakes gate end other (inr held) = inr held
 
-  pub none_woken : (seen : List Bool) (bound : ℕ) → IsLeastGated devices (length devices) net bound → AreWokenFrom bound seen
-  none_woken seen bound chain d x lt gated = inr (chain.above d x lt gated)
+  module _ (net : ℕ) where
+    -- both ends of the device are due or held
+    abbrev pub BothWoken : List Bool → Device → Type 0
+    BothWoken seen device = IsWoken circuit drives levels seen net (one_end device) (other_end device)
+        × IsWoken circuit drives levels seen net (other_end device) (one_end device)
 
-  pub one_woken : (a : List Bool) (x : List ℕ) (b : List Bool) (y : List ℕ) → Wakes a x b y → (at bound behind : ℕ) → behind ≡ at + 1
-      → ((d : ℕ) (x : Device) → d ≡ at → (end : ℕ) → EndsAt (get_or devices d x) end → get_or b end false ≡ false)
-      → IsLeastGated devices at net bound → AreWokenFrom behind a → AreWokenFrom bound b
-  one_woken a x b y wakes at bound behind one now chain before d device lt gated =
-      elim (cases_eq d at) [
-        | inl same ↦ inl (now d device same)
-        | inr apart ↦ elim (before d device lt gated) [
-          | inl h ↦ inl (λ end e. due_more a x b y wakes end (h end e))
-          | inr below ↦ inr (chain.above d device (omega arith) gated)
+    pub both_more : (a : List Bool) (x : List ℕ) (b : List Bool) (y : List ℕ) → Wakes a x b y → (device : Device) → BothWoken a device → BothWoken b device
+    both_more a x b y wakes device both = (
+      woken_more a x b y wakes net (one_end device) (other_end device) both.0,
+      woken_more a x b y wakes net (other_end device) (one_end device) both.1,
+    )
+
+    -- so it is with the devices from this one on that the net gates
+    abbrev pub AreWokenFrom : ℕ → List Bool → Type 0
+    AreWokenFrom behind seen = (d : ℕ) (x : Device) → d < length circuit.devices → IsGatedBy (get_or circuit.devices d x) net
+        → BothWoken seen (get_or circuit.devices d x) ⊎ (d < behind)
+
+    pub none_woken : (seen : List Bool) (bound : ℕ) → IsLeastGated circuit.devices (length circuit.devices) net bound → AreWokenFrom bound seen
+    none_woken seen bound chain d x lt gated = inr (chain.above d x lt gated)
+
+    pub one_woken : (a : List Bool) (x : List ℕ) (b : List Bool) (y : List ℕ) → Wakes a x b y → (at bound behind : ℕ) → behind ≡ at + 1
+        → ((d : ℕ) (x : Device) → d ≡ at → BothWoken b (get_or circuit.devices d x))
+        → IsLeastGated circuit.devices at net bound → AreWokenFrom behind a → AreWokenFrom bound b
+    one_woken a x b y wakes at bound behind one now chain before d device lt gated =
+        elim (cases_eq d at) [
+          | inl same ↦ inl (now d device same)
+          | inr apart ↦ elim (before d device lt gated) [
+            | inl h ↦ inl (both_more a x b y wakes (get_or circuit.devices d device) h)
+            | inr below ↦ inr (chain.above d device (omega arith) gated)
+          ]
         ]
-      ]
 
-  pub all_woken : (seen : List Bool) → AreWokenFrom 0 seen → AreWoken devices net seen
-  all_woken seen all d x lt gated = elim (all d x lt gated) [ inl h ↦ h | inr below ↦ absurd (omega arith) ]
+    pub all_woken : (seen : List Bool) → AreWokenFrom 0 seen → AreWoken circuit drives levels seen net
+    all_woken seen all d x lt gated = elim (all d x lt gated) [ inl h ↦ h | inr below ↦ absurd (omega arith) ]
 
 -- ---- a net that is taken
 
@@ -105,10 +112,6 @@ turned_most now later rest now_new taken e most = let one = one_fewer later rest
 
 pub turned_fewer : (later rest : List ℕ) (taken : ℕ) → later ≡ rest ++ taken ∷ [] → length rest < length later
 turned_fewer later rest taken e = let one = one_fewer later rest taken e in omega (arith, one)
-
-pub all_turned : (now later : List ℕ) → later ≡ [] → (net : ℕ) → Waits now net ⊎ Waits later net → Waits now net
-all_turned now later none net (inl w) = w
-all_turned now later none net (inr w) = absurd (subst (λ l. Waits l net) none w)
 
 pub none_left : (first later now next : List ℕ) → ((net : ℕ) → Waits first net ⊎ Waits later net → Waits now net ⊎ Waits next net)
     → now ≡ [] → next ≡ [] → (net : ℕ) → Waits first net ⊎ Waits later net → ⊥
@@ -177,21 +180,64 @@ module _ (old new : List Level) (told : List (Option Bool)) (net : ℕ) (lt : ne
       by false same = none same (unknown_before net e)
       by true tell = absurd (is_known (tells tell) e)
 
-  pub woken_next : (devices : List Device) (first : List Level) (a : List Bool) (x : List ℕ) (b : List Bool) (y : List ℕ) → Wakes a x b y
-      → (result ≡ true → AreWoken devices net b) → AllAreWoken devices first old a → AllAreWoken devices first new b
-  woken_next devices first a x b y wakes woken before k differs =
-      elim (same_level (level_at old k) (level_at first k)) [
-        | inr early ↦ λ d device below gated end e. due_more a x b y wakes end (before k early d device below gated end e)
-        | inl same ↦ by result refl (λ now. differs (now ∙ same))
+  known_apart : TellsAt old new told net → (k : ℕ) (l : Level) → level_at old k ≡ l → l ≢ Unknown → level_at new k ≡ l
+  known_apart at k l e known =
+      elim (cases_eq k net) [
+        | inl same ↦ absurd (known (sym e ∙ ap (level_at old) same ∙ at.unknown))
+        | inr apart ↦ rest_same at k apart ∙ e
       ]
-    where
-      by : (r : Bool) → result ≡ r → (level_at new k ≢ level_at old k) → AreWoken devices k b
-      by false same other = absurd (other (ap (λ l. level_at l k) (rest same)))
-      by true tell other =
-          elim (cases_eq k net) [
-            | inl same ↦ subst (λ n. AreWoken devices n b) (sym same) (woken tell)
-            | inr apart ↦ absurd (other (rest_same (tells tell) k apart))
-          ]
+
+  module _ (circuit : Circuit) (drives : List Bool) (first : List Level) (a : List Bool) (x : List ℕ) (b : List Bool) (y : List ℕ) (wakes : Wakes a x b y) where
+    -- what was held is so still, or its end is due
+    held_next : TellsAt old new told net → AreWoken circuit drives new b net → (gate end other : ℕ) → IsHeld circuit drives old gate end other
+        → IsWoken circuit drives new b gate end other
+    held_next at woken gate end other held =
+        let r = at_gate circuit.devices (possible (level_at old)) end held.still.to held.still.joined in
+        let both = woken r.at r.device r.within in
+        elim (cases_eq r.gate net) [
+          | inr apart ↦ inr (record {
+            low = known_apart at gate Low held.low (λ e. cc);
+            led = held.led;
+            still = record {
+              to = held.still.to;
+              joined = r.joins (possible (level_at new)) (ap may_be_high (rest_same at r.gate apart) ∙ r.on);
+              fixed = held.still.fixed;
+            };
+          })
+          | inl same ↦
+              let pair = both (subst (IsGatedBy (get_or circuit.devices r.at r.device)) same r.gated) in
+              elim r.ends [
+                | inl e ↦ again (subst (λ k. IsWoken circuit drives new b net k (other_end (get_or circuit.devices r.at r.device))) e.0 pair.0)
+                | inr e ↦ again (subst (λ k. IsWoken circuit drives new b net k (one_end (get_or circuit.devices r.at r.device))) e.0 pair.1)
+              ]
+        ]
+      where
+        again : {far : ℕ} → IsWoken circuit drives new b net end far → IsWoken circuit drives new b gate end other
+        again (inl due) = inl due
+        again (inr now) = inr (record { low = known_apart at gate Low held.low (λ e. cc); led = held.led; still = now.still })
+
+    woken_still : TellsAt old new told net → AreWoken circuit drives new b net → (gate end other : ℕ) → IsWoken circuit drives old a gate end other
+        → IsWoken circuit drives new b gate end other
+    woken_still at woken gate end other (inl due) = inl (due_more a x b y wakes end due)
+    woken_still at woken gate end other (inr held) = held_next at woken gate end other held
+
+    pub woken_next : (result ≡ true → AreWoken circuit drives new b net) → AllAreWoken circuit drives first old a → AllAreWoken circuit drives first new b
+    woken_next woken before k differs = by result refl
+      where
+        by : (r : Bool) → result ≡ r → AreWoken circuit drives new b k
+        by false same =
+            let is = rest same in
+            let early = before k (λ e. differs (ap (λ l. level_at l k) is ∙ e)) in
+            λ d device below gated.
+            subst (λ l. BothWoken circuit drives l k b (get_or circuit.devices d device)) (sym is)
+            (both_more circuit drives old k a x b y wakes (get_or circuit.devices d device) (early d device below gated))
+        by true tell =
+            elim (cases_eq k net) [
+              | inl same ↦ subst (AreWoken circuit drives new b) (sym same) (woken tell)
+              | inr apart ↦ λ d device below gated.
+                  let early = before k (λ e. differs (rest_same (tells tell) k apart ∙ e)) d device below gated in
+                  (woken_still (tells tell) (woken tell) k _ _ early.0, woken_still (tells tell) (woken tell) k _ _ early.1)
+            ]
 
 pub none_told : (old new : List Level) (xs : List ℕ) (told : List (Option Bool)) (at : ℕ)
     → ((k : ℕ) → level_at new k ≡ Unknown → level_at old k ≡ Unknown)

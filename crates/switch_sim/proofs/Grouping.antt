@@ -1,7 +1,7 @@
 -- Steps of the search for a group.
-use Rattle.std.proofs.Common.{◌≡◌, ◌≢◌, ◌⊎◌, inl, inr, ℕ, zero, suc, ◌+◌, ◌==◌, ◌<◌, ◌≤◌, ◌&&◌, ◌||◌, Bool, true, false, List, [], ◌∷◌, ◌++◌, Some, length, get_or, refl, sym, ap, ◌∙◌, subst, arith, append_assoc, append-nil}
+use Rattle.std.proofs.Common.{◌≡◌, ◌≢◌, ◌⊎◌, inl, inr, ℕ, zero, suc, ◌+◌, ◌==◌, ◌<◌, ◌≤◌, ◌&&◌, ◌||◌, Bool, true, false, List, [], ◌∷◌, ◌++◌, length, get_or, refl, sym, ap, ◌∙◌, subst, arith, append_assoc, append-nil}
 use Rattle.switch_net.specs.Circuit.{Circuit}
-use Rattle.switch_net.specs.Settling.{Values, fixed_level, Joins, HasLoad, IsFree, Grouped}
+use Rattle.switch_net.specs.Settling.{Values, Joins, HasLoad, IsFree, Grouped}
 use Rattle.switch_net.specs.Settling.Grouped.{here, step}
 use Rattle.switch_net.specs.declared.network.Device.{Device}
 use Rattle.switch_net.specs.declared.network.Device.TheVariants.{Pass, Load}
@@ -60,17 +60,6 @@ then_more a f b g c h one two = record {
 pub kept_more : (a : List ℕ) (f : Findings) (b : List ℕ) (g : Findings) → IsMore a f b g → (m : ℕ) → Waits a m → Waits b m
 kept_more a f b g more m w = subst (λ l. Waits l m) (sym more.behind) (waits_front a more.more m w)
 
-pub behind_more : (old : List ℕ) (net : ℕ) (new : List ℕ) (found : Findings) → IsBehind old net new → IsMore old found new found
-behind_more old net new found (inl e) = subst (λ l. IsMore old found l found) (sym e) (none_more old found)
-behind_more old net new found (inr e) = record {
-  more = net ∷ [];
-  behind = e;
-  low = λ h. h;
-  high = λ h. h;
-  not_low = λ h. h;
-  not_high = λ h. h;
-}
-
 module _ (sight : Sight) where
   pub met_more : (a : List ℕ) (f : Findings) (b : List ℕ) (g : Findings) → IsMore a f b g → (net : ℕ) → IsMet sight a f net → IsMet sight b g net
   met_more a f b g more net met = record {
@@ -118,36 +107,6 @@ module _ (sight : Sight) where
       not_high = sound.not_high;
     }
 
-    pub true_low : (net other : ℕ) (group : List ℕ) (found : Findings) → fixed_level C.pads sight.drive.now other ≡ Some false
-        → Joins C.devices V net other → StaysTrue sight conduct net group found group (record found { low = true })
-    true_low net other group found fixed j start w sound = record {
-      grouped = sound.grouped;
-      low = λ _. record { from = net; to = other; grouped = sound.grouped net w; joined = j; fixed = fixed };
-      high = sound.high;
-      not_low = sound.not_low;
-      not_high = sound.not_high;
-    }
-
-    pub true_high : (net other : ℕ) (group : List ℕ) (found : Findings) → fixed_level C.pads sight.drive.now other ≡ Some true
-        → Joins C.devices V net other → StaysTrue sight conduct net group found group (record found { high = true })
-    true_high net other group found fixed j start w sound = record {
-      grouped = sound.grouped;
-      low = sound.low;
-      high = λ _. inl (record { from = net; to = other; grouped = sound.grouped net w; joined = j; fixed = fixed });
-      not_low = sound.not_low;
-      not_high = sound.not_high;
-    }
-
-    pub true_load : (net : ℕ) (group : List ℕ) (found : Findings) → HasLoad C.devices net
-        → StaysTrue sight conduct net group found group (record found { high = true })
-    true_load net group found load start w sound = record {
-      grouped = sound.grouped;
-      low = sound.low;
-      high = λ _. inr (record { at = net; grouped = sound.grouped net w; load = load });
-      not_low = sound.not_low;
-      not_high = sound.not_high;
-    }
-
 -- ---- devices by number
 
 pub load_at : (devices : List Device) (d : ℕ) (device : Device) → d < length devices → get_or devices d device ≡ device → (net : ℕ)
@@ -174,7 +133,7 @@ joins_at (Pass g p q ∷ devices) v zero gate x y lt e on a b h =
 joins_at (Load first ∷ devices) v (suc d) gate x y lt e on a b h = joins_at devices v d gate x y (omega arith) e on a b h
 joins_at (Pass g p q ∷ devices) v (suc d) gate x y lt e on a b h = inr (joins_at devices v d gate x y (omega arith) e on a b h)
 
-and_both : (a b : Bool) → (a && b) ≡ true → (a ≡ true) × (b ≡ true)
+pub and_both : (a b : Bool) → (a && b) ≡ true → (a ≡ true) × (b ≡ true)
 and_both true b e = (refl, e)
 and_both false b e = absurd (cc)
 
@@ -182,7 +141,7 @@ and_true : (a b : Bool) → a ≡ true → b ≡ true → (a && b) ≡ true
 and_true true b e f = f
 and_true false b e f = absurd (cc)
 
-or_either : (a b : Bool) → (a || b) ≡ true → (a ≡ true) ⊎ (b ≡ true)
+pub or_either : (a b : Bool) → (a || b) ≡ true → (a ≡ true) ⊎ (b ≡ true)
 or_either true b e = inl refl
 or_either false b e = inr e
 
@@ -210,20 +169,6 @@ pub same_number : (a : List ℕ) (f : Findings) (b : List ℕ) (g : Findings) �
 same_number a f b g more i lt = ap (λ l. get_or l i 0) more.behind ∙ get_or-append a more.more 0 i lt
 
 -- ---- a load, a charge
-
-pub load_more : (group : List ℕ) (f g : Findings) (is_load : Bool) → g.low ≡ f.low → g.high ≡ (is_load || f.high) → g.not_low ≡ f.not_low → g.not_high ≡ f.not_high
-    → IsMore group f group g
-load_more group f g is_load low high not_low not_high = record {
-  more = [];
-  behind = sym (append-nil group);
-  low = λ e. low ∙ e;
-  high = λ e. high ∙ or_right is_load f.high e;
-  not_low = λ e. not_low ∙ e;
-  not_high = λ e. not_high ∙ e;
-}
-
-pub load_followed : (f g : Findings) (is_load : Bool) → g.high ≡ (is_load || f.high) → is_load ≡ true → g.high ≡ true
-load_followed f g is_load high e = high ∙ or_left is_load f.high e
 
 module _ (sight : Sight) (conduct : Conduct) (net : ℕ) where
   pub load_true : (group : List ℕ) (f g : Findings) (is_load : Bool) → g.low ≡ f.low → g.high ≡ (is_load || f.high) → g.not_low ≡ f.not_low

@@ -1,71 +1,21 @@
 -- What holds of the nets that are not due stays so when nets are told whose devices' ends are due then.
-use Rattle.std.proofs.Common.{◌≡◌, ◌⊎◌, inl, inr, ℕ, suc, ◌<◌, Bool, true, false, List, [], ◌∷◌, length, get_or, refl, sym, ap, ◌∙◌, arith}
+use Rattle.std.proofs.Common.{◌≡◌, ◌≢◌, ◌⊎◌, inl, inr, ℕ, ◌<◌, Bool, true, false, List, Option, Some, get_or, refl, sym, ap, ◌∙◌, subst}
 use Rattle.switch_net.specs.Circuit.{Circuit}
 use Rattle.switch_net.specs.LeastLevels.{Tells, IsRefinedBy}
 use Rattle.switch_net.specs.LeastLevels.Tells.{pulled_low, rises, keeps}
-use Rattle.switch_net.specs.Settling.{Values, Joins, IsFree, Grouped, Source, IsPulledHigh}
+use Rattle.switch_net.specs.Settling.{Values, fixed_level, Joins, IsFree, Grouped, Source, IsPulledHigh}
 use Rattle.switch_net.specs.Settling.Grouped.{here, step}
 use Rattle.switch_net.specs.Ternary.{is_high, may_be_high, sure, possible}
 use Rattle.switch_net.specs.declared.network.Device.{Device}
-use Rattle.switch_net.specs.declared.network.Device.TheVariants.{Pass, Load}
 use Rattle.switch_net.specs.declared.network.Level.{Level}
 use Rattle.switch_net.specs.declared.network.Level.TheVariants.{Low, High, Unknown}
-use Rattle.switch_sim.specs.DueNets.{AllAreWoken, IsQuiet, AreHandled}
-use Rattle.switch_sim.specs.Gating.{IsGatedBy}
-use Rattle.switch_sim.specs.Incidence.{EndsAt}
+use Rattle.switch_sim.specs.DueNets.{LeadsLow, IsHeld, IsWoken, AllAreWoken, IsQuiet, AreHandled}
+use Rattle.switch_sim.specs.Incidence.{one_end, other_end}
 use Rattle.switch_sim.specs.Simulation.{level_at}
 use Rattle.switch_sim.specs.Waiting.{Waits}
+use Rattle.switch_sim.proofs.AtGates.{AtGate, at_gate}
 use Rattle.switch_sim.proofs.DueNets.{same_level}
 use Rattle.switch_sim.proofs.RightlyTold.{join, turn, group_is_free}
-
--- ---- a device that joins two nets, and its gate
-
-record AtGate (devices : List Device) (v : Values) (a b : ℕ) : Type 0 where
-  gate : ℕ
-  on : v gate ≡ true
-  at : ℕ
-  device : Device
-  within : at < length devices
-  gated : IsGatedBy (get_or devices at device) gate
-  ends : EndsAt (get_or devices at device) a
-  joins : (w : Values) → w gate ≡ true → Joins devices w a b
-
-at_gate : (devices : List Device) (v : Values) (a b : ℕ) → Joins devices v a b → AtGate devices v a b
-at_gate [] v a b h = absurd h
-at_gate (Load net ∷ devices) v a b h =
-    let r = at_gate devices v a b h in
-    record {
-      gate = r.gate;
-      on = r.on;
-      at = suc r.at;
-      device = r.device;
-      within = let lt = r.within in omega arith;
-      gated = r.gated;
-      ends = r.ends;
-      joins = r.joins;
-    }
-at_gate (Pass gate x y ∷ devices) v a b (inl h) = record {
-  gate = gate.0;
-  on = h.0;
-  at = 0;
-  device = Pass gate x y;
-  within = omega arith;
-  gated = refl;
-  ends = elim h.1 [ inl e ↦ inl e.0 | inr e ↦ inr e.0 ];
-  joins = λ w on. inl (on, h.1);
-}
-at_gate (Pass gate x y ∷ devices) v a b (inr h) =
-    let r = at_gate devices v a b h in
-    record {
-      gate = r.gate;
-      on = r.on;
-      at = suc r.at;
-      device = r.device;
-      within = let lt = r.within in omega arith;
-      gated = r.gated;
-      ends = r.ends;
-      joins = λ w on. inr (r.joins w on);
-    }
 
 sure_is_possible : (l : Level) → is_high l ≡ true → may_be_high l ≡ true
 sure_is_possible High e = refl
@@ -74,28 +24,46 @@ sure_is_possible Unknown e = absurd (cc)
 
 -- ---- from levels to those after nets were told
 
-module _ (circuit : Circuit) (drives : List Bool) (old new : List Level) (seen : List Bool) (woken : AllAreWoken circuit.devices old new seen) where
+module _ (circuit : Circuit) (drives : List Bool) (old new : List Level) (seen : List Bool) (woken : AllAreWoken circuit drives old new seen) where
   abbrev D : List Device
   D = circuit.devices
 
-  abbrev Lit : (Level → Bool) → List Level → Values
-  Lit on levels net = on (level_at levels net)
+  -- the end of a device whose gate was told
+  end_woken : (v : Values) (a b : ℕ) (r : AtGate D v a b) → level_at new r.gate ≢ level_at old r.gate → (get_or seen a false ≡ false → ⊥)
+      → IsHeld circuit drives new r.gate a b
+  end_woken v a b r differs calm =
+      let both = woken r.gate differs r.at r.device r.within r.gated in
+      elim r.ends [
+        | inl e ↦ held (subst (λ k. IsWoken circuit drives new seen r.gate k b) e.0
+            (subst (λ k. IsWoken circuit drives new seen r.gate (one_end (get_or D r.at r.device)) k) e.1 both.0))
+        | inr e ↦ held (subst (λ k. IsWoken circuit drives new seen r.gate k b) e.0
+            (subst (λ k. IsWoken circuit drives new seen r.gate (other_end (get_or D r.at r.device)) k) e.1 both.1))
+      ]
+    where
+      held : IsWoken circuit drives new seen r.gate a b → IsHeld circuit drives new r.gate a b
+      held (inl due) = absurd (calm due)
+      held (inr h) = h
 
-  -- a device at a net that is not due conducts as before
-  on_after : (on : Level → Bool) (a b : ℕ) → (get_or seen a false ≡ false → ⊥) → Joins D (Lit on old) a b → Joins D (Lit on new) a b
-  on_after on a b calm j =
-      let r = at_gate D (Lit on old) a b j in
+  -- a device at a net that is not due may conduct as before, or it led to ground and another still does
+  on_after : (a b : ℕ) → (get_or seen a false ≡ false → ⊥) → Joins D (possible (level_at old)) a b
+      → Joins D (possible (level_at new)) a b ⊎ ((fixed_level circuit.pads drives b ≡ Some false) × LeadsLow circuit drives (possible (level_at new)) a)
+  on_after a b calm j =
+      let r = at_gate D (possible (level_at old)) a b j in
       elim (same_level (level_at new r.gate) (level_at old r.gate)) [
-        | inl same ↦ r.joins (Lit on new) (ap on same ∙ r.on)
-        | inr differs ↦ absurd (calm (woken r.gate differs r.at r.device r.within r.gated a r.ends))
+        | inl same ↦ inl (r.joins (possible (level_at new)) (ap may_be_high same ∙ r.on))
+        | inr differs ↦ let h = end_woken (possible (level_at old)) a b r differs calm in inr (h.led, h.still)
       ]
 
-  on_before : (on : Level → Bool) (a b : ℕ) → (get_or seen a false ≡ false → ⊥) → Joins D (Lit on new) a b → Joins D (Lit on old) a b
-  on_before on a b calm j =
-      let r = at_gate D (Lit on new) a b j in
+  -- one that conducts for sure did so before
+  on_before : (a b : ℕ) → (get_or seen a false ≡ false → ⊥) → Joins D (sure (level_at new)) a b → Joins D (sure (level_at old)) a b
+  on_before a b calm j =
+      let r = at_gate D (sure (level_at new)) a b j in
       elim (same_level (level_at new r.gate) (level_at old r.gate)) [
-        | inl same ↦ r.joins (Lit on old) (ap on (sym same) ∙ r.on)
-        | inr differs ↦ absurd (calm (woken r.gate differs r.at r.device r.within r.gated a r.ends))
+        | inl same ↦ r.joins (sure (level_at old)) (ap is_high (sym same) ∙ r.on)
+        | inr differs ↦
+            let h = end_woken (sure (level_at new)) a b r differs calm in
+            let high : is_high Low ≡ true = subst (λ l. is_high l ≡ true) h.low r.on in
+            absurd (cc)
       ]
 
   possibly : (a b : ℕ) → Joins D (sure (level_at new)) a b → Joins D (possible (level_at new)) a b
@@ -120,21 +88,26 @@ module _ (circuit : Circuit) (drives : List Bool) (old new : List Level) (seen :
       → Grouped circuit drives (possible (level_at new)) a m
   possible_group _ _ free quiet (here a) = here a
   possible_group _ _ free quiet (step a b m j f r) =
-      let k = on_after may_be_high a b (calm_here a free quiet) j in
-      step a b m k f (possible_group b m f (quiet_on a b k f quiet) r)
+      elim (on_after a b (calm_here a free quiet) j) [
+        | inl k ↦ step a b m k f (possible_group b m f (quiet_on a b k f quiet) r)
+        | inr h ↦ absurd (let fixed = f.1 in let low = h.0 in cc)
+      ]
 
   possible_source : (level : Bool) (a : ℕ) → IsFree circuit drives a → Quiet a → Source circuit drives (possible (level_at old)) level a
       → Source circuit drives (possible (level_at new)) level a
   possible_source level a free quiet s =
       let g = possible_group a s.from free quiet s.grouped in
       let f = group_is_free circuit drives (possible (level_at new)) a s.from free g in
-      record {
-        from = s.from;
-        to = s.to;
-        grouped = g;
-        joined = on_after may_be_high s.from s.to (calm_here s.from f (quiet_at a s.from g quiet)) s.joined;
-        fixed = s.fixed;
-      }
+      elim (on_after s.from s.to (calm_here s.from f (quiet_at a s.from g quiet)) s.joined) [
+        | inl k ↦ record { from = s.from; to = s.to; grouped = g; joined = k; fixed = s.fixed }
+        | inr h ↦
+            let same : Some level ≡ Some false = sym s.fixed ∙ h.0 in
+            let low : false ≡ level = cc in
+            record { from = s.from; to = h.1.to; grouped = g; joined = h.1.joined; fixed = h.1.fixed ∙ ap some low }
+      ]
+    where
+      some : Bool → Option Bool
+      some b = Some b
 
   possible_high : (a : ℕ) → IsFree circuit drives a → Quiet a → IsPulledHigh circuit drives (possible (level_at old)) a
       → IsPulledHigh circuit drives (possible (level_at new)) a
@@ -148,7 +121,7 @@ module _ (circuit : Circuit) (drives : List Bool) (old new : List Level) (seen :
   sure_group _ _ free quiet (step a b m j f r) =
       let k = possibly a b j in
       let rest = sure_group b m f (quiet_on a b k f quiet) r in
-      (step a b m (on_before is_high a b (calm_here a free quiet) j) f rest.0, step a b m k f rest.1)
+      (step a b m (on_before a b (calm_here a free quiet) j) f rest.0, step a b m k f rest.1)
 
   sure_source : (level : Bool) (a : ℕ) → IsFree circuit drives a → Quiet a → Source circuit drives (sure (level_at new)) level a
       → Source circuit drives (sure (level_at old)) level a
@@ -159,7 +132,7 @@ module _ (circuit : Circuit) (drives : List Bool) (old new : List Level) (seen :
         from = s.from;
         to = s.to;
         grouped = g.0;
-        joined = on_before is_high s.from s.to (calm_here s.from f (quiet_at a s.from g.1 quiet)) s.joined;
+        joined = on_before s.from s.to (calm_here s.from f (quiet_at a s.from g.1 quiet)) s.joined;
         fixed = s.fixed;
       }
 

@@ -12,7 +12,8 @@ pub mod OneTrace
 pub mod OneRun
 pub mod Grouping
 pub mod RightlyTold
-pub mod Sweeping
+pub mod ToldLevels
+pub mod AtGates
 pub mod DueNets
 pub mod Handled
 pub mod Settles

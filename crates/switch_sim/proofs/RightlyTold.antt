@@ -255,10 +255,6 @@ module _ (sight : Sight) (start : ℕ) (group : List ℕ) (p : Findings) (explor
         | inr none ↦ inl (sym (seen_rest k none) ∙ e)
       ]
 
-pub part_kept : (part : List ℕ) (seen seen_new : List Bool) → ((k : ℕ) → Waits part k → get_or seen_new k false ≡ true)
-    → ((k : ℕ) → ¬ Waits part k → get_or seen_new k false ≡ get_or seen k false) → (k : ℕ) → get_or seen k false ≡ true → get_or seen_new k false ≡ true
-part_kept part seen seen_new on rest k e = elim (waits_or_not part k) [ inl at ↦ on k at | inr none ↦ rest k none ∙ e ]
-
 -- what holds of the nets of these numbers holds of each that waits
 pub each_waits : (P : ℕ → Type 0) (xs : List ℕ) (at : ℕ) → length xs ≤ at → ((i : ℕ) → i < at → P (get_or xs i 0)) → (k : ℕ) → Waits xs k → P k
 each_waits P xs at past all k w = let n = waits_number xs k w in subst P n.2 (all n.0 (let lt = n.1 in omega arith))

@@ -10,7 +10,7 @@ use Rattle.switch_net.specs.declared.network.Level.{Level}
 use Rattle.switch_sim.specs.DueNets.{AreListed, AreHandled, Remain}
 use Rattle.switch_sim.specs.Nets.{first_level}
 use Rattle.switch_sim.specs.Simulation.{level_at}
-use Rattle.switch_sim.specs.Sweeping.{LeadsOn, IsCloser, unknowns}
+use Rattle.switch_sim.specs.ToldLevels.{LeadsOn, IsCloser, unknowns}
 use Rattle.switch_sim.specs.Waiting.{Waits}
 
 module _ (circuit : Circuit) (drives : List Bool) where

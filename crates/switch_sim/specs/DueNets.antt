@@ -1,24 +1,44 @@
 -- The nets that are due, and what they are due for.
-use Rattle.std.specs.Prelude.{◌≡◌, ◌≢◌, ◌⊎◌, ℕ, ◌<◌, Bool, true, false, List, length, slice_index_or}
+use Rattle.std.specs.Prelude.{◌≡◌, ◌≢◌, ◌⊎◌, ℕ, ◌<◌, Bool, true, false, List, Some, length, slice_index_or}
 use Rattle.switch_net.specs.Circuit.{Circuit}
-use Rattle.switch_net.specs.Settling.{IsFree, Grouped}
+use Rattle.switch_net.specs.Settling.{Values, fixed_level, Joins, IsFree, Grouped}
 use Rattle.switch_net.specs.Ternary.{possible}
 use Rattle.switch_net.specs.declared.network.Device.{Device}
 use Rattle.switch_net.specs.declared.network.Level.{Level}
+use Rattle.switch_net.specs.declared.network.Level.TheVariants.{Low}
 use Rattle.switch_sim.specs.Gating.{IsGatedBy}
-use Rattle.switch_sim.specs.Incidence.{EndsAt}
+use Rattle.switch_sim.specs.Incidence.{one_end, other_end}
 use Rattle.switch_sim.specs.Simulation.{level_at}
-use Rattle.switch_sim.specs.Sweeping.{IsToldNothing}
+use Rattle.switch_sim.specs.ToldLevels.{IsToldNothing}
 use Rattle.switch_sim.specs.Waiting.{Waits}
 
--- A net is due where it was not seen since a gate at it was told. The ends of all devices that the net gates are due.
-abbrev pub AreWoken : List Device → ℕ → List Bool → Type 0
-AreWoken devices net seen = (d : ℕ) (x : Device) → d < length devices → IsGatedBy (slice_index_or devices d x) net
-    → (end : ℕ) → EndsAt (slice_index_or devices d x) end → slice_index_or seen end false ≡ false
+-- A conducting device leads from the net to one that is fixed low.
+pub record LeadsLow (circuit : Circuit) (drives : List Bool) (v : Values) (net : ℕ) : Type 0 where
+  pub to : ℕ
+  pub joined : Joins circuit.devices v net to
+  pub fixed : fixed_level circuit.pads drives to ≡ Some false
 
--- The ends of all devices are due whose gates were told.
-abbrev pub AllAreWoken : List Device → List Level → List Level → List Bool → Type 0
-AllAreWoken devices levels levels_new seen = (net : ℕ) → level_at levels_new net ≢ level_at levels net → AreWoken devices net seen
+-- The gate of a device was told low, the device led from this end to a net that is fixed low, and another may do so still: of the
+-- groups of this end nothing is told by this.
+pub record IsHeld (circuit : Circuit) (drives : List Bool) (levels : List Level) (gate end other : ℕ) : Type 0 where
+  pub low : level_at levels gate ≡ Low
+  pub led : fixed_level circuit.pads drives other ≡ Some false
+  pub still : LeadsLow circuit drives (possible (level_at levels)) end
+
+-- A net is due where it was not seen since a gate at it was told. This end of a device whose gate was told is due, or it is held.
+abbrev pub IsWoken : Circuit → List Bool → List Level → List Bool → ℕ → ℕ → ℕ → Type 0
+IsWoken circuit drives levels seen gate end other = (slice_index_or seen end false ≡ false) ⊎ IsHeld circuit drives levels gate end other
+
+-- So are both ends of each device that the net gates.
+abbrev pub AreWoken : Circuit → List Bool → List Level → List Bool → ℕ → Type 0
+AreWoken circuit drives levels seen net = (d : ℕ) (x : Device) → d < length circuit.devices → IsGatedBy (slice_index_or circuit.devices d x) net
+    → IsWoken circuit drives levels seen net (one_end (slice_index_or circuit.devices d x)) (other_end (slice_index_or circuit.devices d x))
+    × IsWoken circuit drives levels seen net (other_end (slice_index_or circuit.devices d x)) (one_end (slice_index_or circuit.devices d x))
+
+-- So are the ends of all devices whose gates were told.
+abbrev pub AllAreWoken : Circuit → List Bool → List Level → List Level → List Bool → Type 0
+AllAreWoken circuit drives levels levels_new seen = (net : ℕ) → level_at levels_new net ≢ level_at levels net
+    → AreWoken circuit drives levels_new seen net
 
 -- More nets are due, and those wait.
 pub record Wakes (seen : List Bool) (next : List ℕ) (seen_new : List Bool) (next_new : List ℕ) : Type 0 where

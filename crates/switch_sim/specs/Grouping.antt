@@ -9,6 +9,7 @@ use Rattle.switch_net.specs.declared.network.Device.{Device}
 use Rattle.switch_net.specs.declared.network.Device.TheVariants.{Pass, Load}
 use Rattle.switch_net.specs.declared.network.Level.{Level}
 use Rattle.switch_net.specs.declared.network.Level.TheVariants.{Low, High}
+use Rattle.switch_sim.specs.Gating.{AreGates}
 use Rattle.switch_sim.specs.Incidence.{IsIncidence}
 use Rattle.switch_sim.specs.Simulation.{level_at}
 use Rattle.switch_sim.specs.Nets.{AreFixed}
@@ -16,6 +17,7 @@ use Rattle.switch_sim.specs.Waiting.{Waits}
 use Rattle.switch_sim.specs.declared.group.Conduct.{Conduct}
 use Rattle.switch_sim.specs.declared.group.Conduct.TheVariants.{Sure, Possible}
 use Rattle.switch_sim.specs.declared.group.Findings.{Findings}
+use Rattle.switch_sim.specs.declared.group.Scene.{Scene}
 use Rattle.switch_sim.specs.declared.group.Sight.{Sight}
 
 -- a device whose gate has this level conducts
@@ -28,6 +30,17 @@ abbrev pub conducting : Conduct → Levels → Values
 conducting conduct v net = conducts conduct (v net)
 
 -- the parts are those of the network, with an entry for each net
+pub record IsScene (scene : Scene) : Type 0 where
+  pub valid : IsNetwork scene.network.now
+  pub fixed : AreFixed scene.fixed.now scene.network.now.pads scene.drive.now
+  pub chains : IsIncidence scene.network.now.devices scene.incidence.now
+  pub last : length scene.incidence.now.last.items ≡ scene.network.now.nets
+  pub gates : AreGates scene.network.now.devices scene.gates.now
+  pub gates_last : length scene.gates.now.last.items ≡ scene.network.now.nets
+  pub fixed_size : length scene.fixed.now ≡ scene.network.now.nets
+  pub charges_size : length scene.charges.now ≡ scene.network.now.nets
+
+-- and so with the levels
 pub record IsSight (sight : Sight) : Type 0 where
   pub valid : IsNetwork sight.network.now
   pub chains : IsIncidence sight.network.now.devices sight.incidence.now

@@ -7,11 +7,12 @@ pub mod TraceLaws
 -- Definitions that serve private contracts alone:
 pub mod TraceReading
 pub mod Waiting
+pub mod Rooms
 pub mod Incidence
 pub mod Gating
 pub mod Naming
 pub mod Nets
 pub mod Grouping
-pub mod Sweeping
+pub mod ToldLevels
 pub mod DueNets
 pub mod Simulating

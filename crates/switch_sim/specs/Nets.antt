@@ -9,6 +9,7 @@ use Rattle.switch_net.specs.declared.network.Pad.{Pad}
 use Rattle.switch_sim.specs.declared.settling.Nets.{Nets}
 use Rattle.switch_sim.specs.Gating.{AreGates}
 use Rattle.switch_sim.specs.Incidence.{IsIncidence}
+use Rattle.switch_sim.specs.Rooms.{HaveRoom}
 
 -- what the net is fixed to
 abbrev pub fixed_at : List (Option Bool) → ℕ → Option Bool
@@ -21,14 +22,12 @@ pub record IsSized (circuit : Circuit) (nets : Nets) : Type 0 where
   pub levels : length nets.levels.items ≡ circuit.nets
   pub told : length nets.told.items ≡ circuit.nets
   pub seen : length nets.seen.items ≡ circuit.nets
+  pub watch : length nets.watch.items ≡ circuit.nets
   pub chains : IsIncidence circuit.devices nets.incidence
   pub last : length nets.incidence.last.items ≡ circuit.nets
   pub gates : AreGates circuit.devices nets.gates
   pub gates_last : length nets.gates.last.items ≡ circuit.nets
-  pub group : nets.group.size ≡ circuit.nets
-  pub part : nets.part.size ≡ circuit.nets
-  pub now : nets.now.size ≡ circuit.nets
-  pub next : nets.next.size ≡ circuit.nets
+  pub lists : HaveRoom circuit.nets nets.lists
 
 -- the level of a net before any is told
 abbrev pub first_level : Option Bool → Level

@@ -8,6 +8,7 @@ ghost use Rattle.switch_sim.specs.Grouping.{conducts, lit, IsSight, IsFollowed, 
 ghost use Rattle.switch_sim.specs.Simulation.{level_at};
 ghost use Rattle.switch_sim.specs.declared.group.Conduct.{Conduct};
 
+use crate::gates::Gates;
 use crate::incidence::Incidence;
 use crate::waiting::Waiting;
 use switch_net::{Device, Level, Net, Network};
@@ -26,6 +27,18 @@ pub(crate) struct Findings {
     pub(crate) high: bool,
     pub(crate) not_low: bool,
     pub(crate) not_high: bool,
+}
+
+/// What stands while a network settles: the network, how it is driven, the devices at each net and those that it gates, what
+/// the nets are fixed to, and their charges.
+#[derive(Drop)]
+pub(crate) struct Scene<'a> {
+    pub(crate) network: &'a Network,
+    pub(crate) drive: &'a [bool],
+    pub(crate) incidence: &'a Incidence,
+    pub(crate) gates: &'a Gates,
+    pub(crate) fixed: &'a [Option<bool>],
+    pub(crate) charges: &'a [Level],
 }
 
 /// Where groups are looked for: the network, how it is driven, the devices at each net, what the nets are fixed to, their charges and
@@ -175,7 +188,7 @@ fn meet(sight: &Sight, here: bool, other: Net, group: &mut Waiting, found: &mut 
 }
 
 /// The device of this number.
-fn device_at(sight: &Sight, at: usize) -> Device
+pub(crate) fn device_at(sight: &Sight, at: usize) -> Device
     requires { at < length sight.now.network.now.devices }
     ensures { (x : Device) → slice_index_or sight.now.network.now.devices at x ≡ result }
 {
@@ -192,7 +205,7 @@ fn charge_of(sight: &Sight, net: u32) -> Level
 }
 
 /// A device with this gate conducts.
-fn is_on(sight: &Sight, conduct: Conduct, gate: Net) -> bool
+pub(crate) fn is_on(sight: &Sight, conduct: Conduct, gate: Net) -> bool
     requires sight { IsSight sight.now }
     requires within { gate.0 < sight.now.network.now.nets }
     ensures { result ≡ lit sight.now conduct gate.0 }
@@ -200,7 +213,7 @@ fn is_on(sight: &Sight, conduct: Conduct, gate: Net) -> bool
     conducts(conduct, sight.levels[gate.0 as usize])
 }
 
-fn both(one: bool, other: bool) -> bool
+pub(crate) fn both(one: bool, other: bool) -> bool
     ensures { result ≡ (one && other) }
 {
     one && other

@@ -53,6 +53,14 @@ impl Incidence {
         self.last[net as usize]
     }
 
+    /// Puts down for each net the number behind the last device at it.
+    pub(crate) fn begin_watch(&self, watch: &mut [usize])
+        requires { length self.now.last.items ≡ length watch.old }
+        ensures { length watch.new ≡ length watch.old }
+    {
+        watch.copy_from_slice(&self.last);
+    }
+
     /// The number behind the device before this one, where the net is at an end of this one.
     pub(crate) fn behind_earlier(&self, devices: &[Device], at: usize, net: u32) -> usize
         requires chains { IsIncidence devices.now self.now }

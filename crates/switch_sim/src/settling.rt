@@ -7,17 +7,20 @@ ghost use Rattle.switch_net.specs.Validity.{AreDistinct, IsNetwork};
 ghost use Rattle.switch_net.specs.declared.network.Level.TheVariants as level;
 ghost use Rattle.switch_sim.specs.DueNets.{AreListed, AreHandled};
 ghost use Rattle.switch_sim.specs.Gating.{AreGates};
+ghost use Rattle.switch_sim.specs.Grouping.{IsScene};
 ghost use Rattle.switch_sim.specs.Incidence.{IsIncidence};
 ghost use Rattle.switch_sim.specs.Nets.{fixed_at};
 ghost use Rattle.switch_sim.specs.Simulation.{level_at};
-ghost use Rattle.switch_sim.specs.Sweeping.{LeadsOn, IsCloser};
+ghost use Rattle.switch_sim.specs.ToldLevels.{LeadsOn, IsCloser};
 ghost use Rattle.switch_sim.specs.Nets.{AreFixed, first_level, IsSized};
+ghost use Rattle.switch_sim.specs.Rooms.{HaveRoom};
 ghost use Rattle.switch_sim.specs.Waiting.{Waits};
 
 use crate::gates::Gates;
+use crate::group::Scene;
 use crate::incidence::Incidence;
 use crate::telling::look_and_tell;
-use crate::waiting::Waiting;
+use crate::waiting::{Lists, Waiting};
 use crate::worklist::take;
 use rx_text::{NoMemory, Role};
 use std::alloc::Global;
@@ -32,12 +35,10 @@ pub(crate) struct Nets {
     pub(crate) levels: Vec<Level>,
     pub(crate) told: Vec<Option<bool>>,
     pub(crate) seen: Vec<bool>,
+    pub(crate) watch: Vec<usize>,
     pub(crate) incidence: Incidence,
     pub(crate) gates: Gates,
-    pub(crate) group: Waiting,
-    pub(crate) part: Waiting,
-    pub(crate) now: Waiting,
-    pub(crate) next: Waiting,
+    pub(crate) lists: Lists,
 }
 
 impl Nets {
@@ -58,12 +59,10 @@ impl Nets {
             levels: vec![in alloc; Level::Unknown; count]?,
             told: vec![in alloc; None; count]?,
             seen: vec![in alloc; false; count]?,
+            watch: vec![in alloc; 0; count]?,
             incidence: Incidence::new(alloc, network.devices(), count)?,
             gates: Gates::new(alloc, network.devices(), count)?,
-            group: Waiting::new(alloc, count)?,
-            part: Waiting::new(alloc, count)?,
-            now: Waiting::new(alloc, count)?,
-            next: Waiting::new(alloc, count)?,
+            lists: Lists::new(alloc, count)?,
         })
     }
 }
@@ -83,12 +82,10 @@ pub(crate) fn settle(network: &Network, drive: &[bool], nets: &mut Nets)
         &nets.gates,
         &mut nets.fixed,
         &mut nets.charges,
-        &mut nets.group,
-        &mut nets.part,
+        &mut nets.lists,
         &mut nets.told,
         &mut nets.seen,
-        &mut nets.now,
-        &mut nets.next,
+        &mut nets.watch,
         &mut nets.levels,
     );
 }
@@ -101,12 +98,10 @@ fn settle_levels(
     gates: &Gates,
     fixed: &mut [Option<bool>],
     charges: &mut [Level],
-    group: &mut Waiting,
-    part: &mut Waiting,
+    lists: &mut Lists,
     told: &mut [Option<bool>],
     seen: &mut [bool],
-    now: &mut Waiting,
-    next: &mut Waiting,
+    watch: &mut [usize],
     levels: &mut [Level],
 )
     requires driven { length drive.now ≡ length network.now.pads }
@@ -117,141 +112,105 @@ fn settle_levels(
     requires fixed_size { length fixed.old ≡ network.now.nets }
     requires charges_size { length charges.old ≡ network.now.nets }
     requires levels_size { length levels.old ≡ network.now.nets }
-    requires group_room { group.old.size ≡ network.now.nets }
-    requires part_room { part.old.size ≡ network.now.nets }
+    requires room { HaveRoom network.now.nets lists.old }
     requires told_size { length told.old ≡ network.now.nets }
     requires seen_size { length seen.old ≡ network.now.nets }
-    requires now_room { now.old.size ≡ network.now.nets }
-    requires next_room { next.old.size ≡ network.now.nets }
+    requires watch_size { length watch.old ≡ network.now.nets }
     ensures levels { SettledLevels network.now drive.now (level_at levels.old) (level_at levels.new) }
     ensures fixed_size { length fixed.new ≡ length fixed.old }
     ensures charges_size { length charges.new ≡ length charges.old }
     ensures levels_size { length levels.new ≡ length levels.old }
-    ensures group_room { group.new.size ≡ group.old.size }
-    ensures part_room { part.new.size ≡ part.old.size }
+    ensures room { HaveRoom network.now.nets lists.new }
     ensures told_size { length told.new ≡ length told.old }
     ensures seen_size { length seen.new ≡ length seen.old }
-    ensures now_room { now.new.size ≡ now.old.size }
-    ensures next_room { next.new.size ≡ next.old.size }
+    ensures watch_size { length watch.new ≡ length watch.old }
 {
     fix(network.pads(), drive, fixed);
     charges.copy_from_slice(levels);
     forget(fixed, levels);
-    begin(network.nets(), fixed, seen, next);
-    tell_all(
-        network, drive, incidence, gates, fixed, charges, group, part, told, seen, now, next,
-        levels,
-    );
+    begin(network.nets(), fixed, seen, &mut lists.next);
+    incidence.begin_watch(watch);
+    let scene = Scene {
+        network,
+        drive,
+        incidence,
+        gates,
+        fixed,
+        charges,
+    };
+    tell_all(&scene, lists, told, seen, watch, levels);
 }
 
 /// Looks at the groups of all nets that are due, until none is.
 fn tell_all(
-    network: &Network,
-    drive: &[bool],
-    incidence: &Incidence,
-    gates: &Gates,
-    fixed: &[Option<bool>],
-    charges: &[Level],
-    group: &mut Waiting,
-    part: &mut Waiting,
+    scene: &Scene,
+    lists: &mut Lists,
     told: &mut [Option<bool>],
     seen: &mut [bool],
-    now: &mut Waiting,
-    next: &mut Waiting,
+    watch: &mut [usize],
     levels: &mut [Level],
 )
-    requires valid { IsNetwork network.now }
-    requires fixed { AreFixed fixed.now network.now.pads drive.now }
-    requires chains { IsIncidence network.now.devices incidence.now }
-    requires last { length incidence.now.last.items ≡ network.now.nets }
-    requires gates { AreGates network.now.devices gates.now }
-    requires gates_last { length gates.now.last.items ≡ network.now.nets }
-    requires fixed_size { length fixed.now ≡ network.now.nets }
-    requires charges_size { length charges.now ≡ network.now.nets }
-    requires levels_size { length levels.old ≡ network.now.nets }
-    requires group_room { group.old.size ≡ network.now.nets }
-    requires part_room { part.old.size ≡ network.now.nets }
-    requires told_size { length told.old ≡ network.now.nets }
-    requires seen_size { length seen.old ≡ network.now.nets }
-    requires now_room { now.old.size ≡ network.now.nets }
-    requires next_room { next.old.size ≡ network.now.nets }
-    requires unknown { StartsUnknown network.now drive.now (level_at levels.old) }
-    requires handled { AreHandled network.now drive.now charges.now levels.old seen.old }
-    requires listed { AreListed network.now drive.now seen.old now.old.nets next.old.nets }
-    ensures levels { SettledLevels network.now drive.now (level_at charges.now) (level_at levels.new) }
+    requires scene { IsScene scene.now }
+    requires levels_size { length levels.old ≡ scene.now.network.now.nets }
+    requires room { HaveRoom scene.now.network.now.nets lists.old }
+    requires told_size { length told.old ≡ scene.now.network.now.nets }
+    requires seen_size { length seen.old ≡ scene.now.network.now.nets }
+    requires watch_size { length watch.old ≡ scene.now.network.now.nets }
+    requires unknown { StartsUnknown scene.now.network.now scene.now.drive.now (level_at levels.old) }
+    requires handled { AreHandled scene.now.network.now scene.now.drive.now scene.now.charges.now levels.old seen.old }
+    requires listed { AreListed scene.now.network.now scene.now.drive.now seen.old lists.old.now.nets lists.old.next.nets }
+    ensures levels { SettledLevels scene.now.network.now scene.now.drive.now (level_at scene.now.charges.now) (level_at levels.new) }
     ensures levels_size { length levels.new ≡ length levels.old }
-    ensures group_room { group.new.size ≡ group.old.size }
-    ensures part_room { part.new.size ≡ part.old.size }
+    ensures room { HaveRoom scene.now.network.now.nets lists.new }
     ensures told_size { length told.new ≡ length told.old }
     ensures seen_size { length seen.new ≡ length seen.old }
-    ensures now_room { now.new.size ≡ now.old.size }
-    ensures next_room { next.new.size ≡ next.old.size }
+    ensures watch_size { length watch.new ≡ length watch.old }
 {
     settled_levels_are_least();
-    while let Some(net) = take(now, next) {
-        look_if_due(
-            network, drive, incidence, gates, fixed, charges, net, group, part, told, seen, next,
-            levels,
-        );
-        now.fits();
+    while let Some(net) = take(&mut lists.now, &mut lists.next) {
+        look_if_due(scene, net, lists, told, seen, watch, levels);
+        lists.now.fits();
     }
 }
 
 /// Looks at the group of the net where it is due.
 fn look_if_due(
-    network: &Network,
-    drive: &[bool],
-    incidence: &Incidence,
-    gates: &Gates,
-    fixed: &[Option<bool>],
-    charges: &[Level],
+    scene: &Scene,
     net: u32,
-    group: &mut Waiting,
-    part: &mut Waiting,
+    lists: &mut Lists,
     told: &mut [Option<bool>],
     seen: &mut [bool],
-    next: &mut Waiting,
+    watch: &mut [usize],
     levels: &mut [Level],
 )
-    requires valid { IsNetwork network.now }
-    requires within { net < network.now.nets }
-    requires fixed { AreFixed fixed.now network.now.pads drive.now }
-    requires chains { IsIncidence network.now.devices incidence.now }
-    requires last { length incidence.now.last.items ≡ network.now.nets }
-    requires gates { AreGates network.now.devices gates.now }
-    requires gates_last { length gates.now.last.items ≡ network.now.nets }
-    requires fixed_size { length fixed.now ≡ network.now.nets }
-    requires charges_size { length charges.now ≡ network.now.nets }
-    requires levels_size { length levels.old ≡ network.now.nets }
-    requires group_room { group.old.size ≡ network.now.nets }
-    requires part_room { part.old.size ≡ network.now.nets }
-    requires told_size { length told.old ≡ network.now.nets }
-    requires seen_size { length seen.old ≡ network.now.nets }
-    requires next_room { next.old.size ≡ network.now.nets }
-    ensures leads { LeadsOn network.now drive.now charges.now levels.old levels.new }
-    ensures handled { AreHandled network.now drive.now charges.now levels.old seen.old
-        → AreHandled network.now drive.now charges.now levels.new seen.new }
-    ensures listed { (k : ℕ) → IsFree network.now drive.now k → slice_index_or seen.new k false ≡ false
-        → ((slice_index_or seen.old k false ≡ false) × (net ≢ k)) ⊎ Waits next.new.nets k }
-    ensures kept { (k : ℕ) → Waits next.old.nets k → Waits next.new.nets k }
-    ensures closer { IsCloser levels.old next.old.nets levels.new next.new.nets }
-    ensures fits { length next.new.nets ≤ next.new.size }
+    requires scene { IsScene scene.now }
+    requires within { net < scene.now.network.now.nets }
+    requires levels_size { length levels.old ≡ scene.now.network.now.nets }
+    requires room { HaveRoom scene.now.network.now.nets lists.old }
+    requires told_size { length told.old ≡ scene.now.network.now.nets }
+    requires seen_size { length seen.old ≡ scene.now.network.now.nets }
+    requires watch_size { length watch.old ≡ scene.now.network.now.nets }
+    ensures leads { LeadsOn scene.now.network.now scene.now.drive.now scene.now.charges.now levels.old levels.new }
+    ensures handled { AreHandled scene.now.network.now scene.now.drive.now scene.now.charges.now levels.old seen.old
+        → AreHandled scene.now.network.now scene.now.drive.now scene.now.charges.now levels.new seen.new }
+    ensures listed { (k : ℕ) → IsFree scene.now.network.now scene.now.drive.now k → slice_index_or seen.new k false ≡ false
+        → ((slice_index_or seen.old k false ≡ false) × (net ≢ k)) ⊎ Waits lists.new.next.nets k }
+    ensures kept { (k : ℕ) → Waits lists.old.next.nets k → Waits lists.new.next.nets k }
+    ensures closer { IsCloser levels.old lists.old.next.nets levels.new lists.new.next.nets }
+    ensures now { lists.new.now ≡ lists.old.now }
+    ensures fits { length lists.new.next.nets ≤ lists.new.next.size }
     ensures levels_size { length levels.new ≡ length levels.old }
-    ensures group_room { group.new.size ≡ group.old.size }
-    ensures part_room { part.new.size ≡ part.old.size }
+    ensures room { HaveRoom scene.now.network.now.nets lists.new }
     ensures told_size { length told.new ≡ length told.old }
     ensures seen_size { length seen.new ≡ length seen.old }
-    ensures next_room { next.new.size ≡ next.old.size }
+    ensures watch_size { length watch.new ≡ length watch.old }
 {
-    next.fits();
-    if !is_due(fixed, seen, net) {
+    lists.next.fits();
+    if !is_due(scene.fixed, seen, net) {
         return;
     }
-    look_and_tell(
-        network, drive, incidence, gates, fixed, charges, net, group, part, told, seen, next,
-        levels,
-    );
-    next.fits();
+    look_and_tell(scene, net, lists, told, seen, watch, levels);
+    lists.next.fits();
 }
 
 /// The net is free, and was not seen since a gate at it was told.

@@ -1,31 +1,22 @@
 // What the nets of a group are told.
 
-ghost use Rattle.std.specs.Prelude.{◌≡◌, ◌≢◌, ◌≤◌, ◌<◌, ◌⊎◌, ℕ, Bool, List, true, false, length, All, slice_index_or, Some, None};
-ghost use Rattle.switch_net.specs.Circuit.{Circuit};
+ghost use Rattle.std.specs.Prelude.{◌≡◌, ◌≢◌, ◌≤◌, ◌<◌, ◌⊎◌, ℕ, Bool, List, true, false, length, slice_index_or, Some, None};
 ghost use Rattle.switch_net.specs.LeastLevels.{Tells};
 ghost use Rattle.switch_net.specs.Ternary.{level_of, possible};
-ghost use Rattle.switch_net.specs.declared.network.Device.{Device};
-ghost use Rattle.switch_net.specs.declared.network.Level.{Level};
 ghost use Rattle.switch_net.specs.declared.network.Level.TheVariants as level;
 ghost use Rattle.switch_sim.specs.Simulation.{level_at};
-ghost use Rattle.switch_sim.specs.Sweeping.{TellsAt, LeadsOn, unknowns};
-ghost use Rattle.switch_net.specs.Validity.{IsNetwork};
-ghost use Rattle.switch_sim.specs.Incidence.{IsIncidence};
-ghost use Rattle.switch_sim.specs.Nets.{AreFixed};
-ghost use Rattle.switch_net.specs.ClockedLogic.{NamesBelow};
+ghost use Rattle.switch_sim.specs.ToldLevels.{TellsAt, LeadsOn, unknowns};
 ghost use Rattle.switch_net.specs.Settling.{IsFree, Grouped};
-ghost use Rattle.switch_sim.specs.Gating.{AreGates};
 ghost use Rattle.switch_sim.specs.DueNets.{AreWoken, AllAreWoken, Wakes, AreHandled};
-ghost use Rattle.switch_sim.specs.Grouping.{IsSight, IsExplored, AreRight, IsRightlyTold, told_at};
+ghost use Rattle.switch_sim.specs.Grouping.{IsScene, IsSight, IsExplored, AreRight, IsRightlyTold, told_at};
+ghost use Rattle.switch_sim.specs.Rooms.{HaveRoom};
 ghost use Rattle.switch_sim.specs.Waiting.{Waits};
 ghost use Rattle.switch_sim.specs.declared.group.Conduct.TheVariants as which;
 
-use crate::gates::Gates;
-use crate::group::{Conduct, Findings, Sight, explore, told_by};
-use crate::incidence::Incidence;
-use crate::waiting::Waiting;
+use crate::group::{Conduct, Findings, Scene, Sight, explore, told_by};
+use crate::waiting::{Lists, Waiting};
 use crate::worklist::wake;
-use switch_net::{Device, Level, Network};
+use switch_net::Level;
 
 /// Marks the nets of a group as not seen.
 fn unmark(group: &Waiting, seen: &mut [bool])
@@ -129,133 +120,137 @@ pub(crate) fn look(
 
 /// Looks at the group of a free net and tells its nets, and answers whether one was told.
 pub(crate) fn look_and_tell(
-    network: &Network,
-    drive: &[bool],
-    incidence: &Incidence,
-    gates: &Gates,
-    fixed: &[Option<bool>],
-    charges: &[Level],
+    scene: &Scene,
     net: u32,
-    group: &mut Waiting,
-    part: &mut Waiting,
+    lists: &mut Lists,
     told: &mut [Option<bool>],
     seen: &mut [bool],
-    next: &mut Waiting,
+    watch: &mut [usize],
     levels: &mut [Level],
 ) -> bool
-    requires valid { IsNetwork network.now }
-    requires free { IsFree network.now drive.now net }
-    requires fixed { AreFixed fixed.now network.now.pads drive.now }
-    requires chains { IsIncidence network.now.devices incidence.now }
-    requires last { length incidence.now.last.items ≡ network.now.nets }
-    requires gates { AreGates network.now.devices gates.now }
-    requires gates_last { length gates.now.last.items ≡ network.now.nets }
-    requires fixed_size { length fixed.now ≡ network.now.nets }
-    requires charges_size { length charges.now ≡ network.now.nets }
-    requires levels_size { length levels.old ≡ network.now.nets }
-    requires group_room { group.old.size ≡ network.now.nets }
-    requires part_room { part.old.size ≡ network.now.nets }
-    requires seen_size { length seen.old ≡ network.now.nets }
-    requires told_size { length told.old ≡ network.now.nets }
-    requires next_room { next.old.size ≡ network.now.nets }
-    ensures leads { LeadsOn network.now drive.now charges.now levels.old levels.new }
-    ensures handled { AreHandled network.now drive.now charges.now levels.old seen.old
-        → AreHandled network.now drive.now charges.now levels.new seen.new }
+    requires scene { IsScene scene.now }
+    requires free { IsFree scene.now.network.now scene.now.drive.now net }
+    requires levels_size { length levels.old ≡ scene.now.network.now.nets }
+    requires room { HaveRoom scene.now.network.now.nets lists.old }
+    requires seen_size { length seen.old ≡ scene.now.network.now.nets }
+    requires told_size { length told.old ≡ scene.now.network.now.nets }
+    requires watch_size { length watch.old ≡ scene.now.network.now.nets }
+    ensures leads { LeadsOn scene.now.network.now scene.now.drive.now scene.now.charges.now levels.old levels.new }
+    ensures handled { AreHandled scene.now.network.now scene.now.drive.now scene.now.charges.now levels.old seen.old
+        → AreHandled scene.now.network.now scene.now.drive.now scene.now.charges.now levels.new seen.new }
     ensures listed { (k : ℕ) → slice_index_or seen.new k false ≡ false
-        → ((slice_index_or seen.old k false ≡ false) × (net ≢ k)) ⊎ Waits next.new.nets k }
-    ensures kept { (k : ℕ) → Waits next.old.nets k → Waits next.new.nets k }
-    ensures quiet { result ≡ false → next.new.nets ≡ next.old.nets }
+        → ((slice_index_or seen.old k false ≡ false) × (net ≢ k)) ⊎ Waits lists.new.next.nets k }
+    ensures kept { (k : ℕ) → Waits lists.old.next.nets k → Waits lists.new.next.nets k }
+    ensures quiet { result ≡ false → lists.new.next.nets ≡ lists.old.next.nets }
     ensures rest { result ≡ false → levels.new ≡ levels.old }
     ensures fewer { result ≡ true → unknowns levels.new < unknowns levels.old }
     ensures levels_size { length levels.new ≡ length levels.old }
-    ensures group_room { group.new.size ≡ group.old.size }
-    ensures part_room { part.new.size ≡ part.old.size }
+    ensures now { lists.new.now ≡ lists.old.now }
+    ensures room { HaveRoom scene.now.network.now.nets lists.new }
     ensures seen_size { length seen.new ≡ length seen.old }
     ensures told_size { length told.new ≡ length told.old }
-    ensures next_room { next.new.size ≡ next.old.size }
+    ensures watch_size { length watch.new ≡ length watch.old }
 {
     let sight = Sight {
-        network,
-        drive,
-        incidence,
-        fixed,
-        charges,
+        network: scene.network,
+        drive: scene.drive,
+        incidence: scene.incidence,
+        fixed: scene.fixed,
+        charges: scene.charges,
         levels,
     };
-    look(&sight, net, group, part, seen, told);
-    tell(network.devices(), gates, group, told, levels, seen, next)
+    look(&sight, net, &mut lists.group, &mut lists.part, seen, told);
+    tell(
+        scene,
+        &lists.group,
+        told,
+        levels,
+        seen,
+        watch,
+        &mut lists.next,
+    )
 }
 
-/// Tells the unknown nets of a group, and answers whether there was one. The ends of the devices that they gate are due.
+/// Tells the unknown nets of a group, and answers whether there was one. The ends of the devices that they gate are due, or held.
 fn tell(
-    devices: &[Device],
-    gates: &Gates,
+    scene: &Scene,
     group: &Waiting,
     told: &[Option<bool>],
     levels: &mut [Level],
     seen: &mut [bool],
+    watch: &mut [usize],
     next: &mut Waiting,
 ) -> bool
-    requires below { All (NamesBelow (length levels.old)) devices.now }
-    requires gates { AreGates devices.now gates.now }
-    requires gates_last { length gates.now.last.items ≡ length levels.old }
-    requires levels_size { group.now.size ≡ length levels.old }
-    requires told_size { group.now.size ≡ length told.now }
-    requires seen_size { group.now.size ≡ length seen.old }
-    requires next_room { group.now.size ≡ next.old.size }
-    ensures leads { (circuit : Circuit) (drives : List Bool) (charges : List Level) → length levels.old ≡ circuit.nets
-        → ((k : ℕ) → Waits group.now.nets k → IsFree circuit drives k)
+    requires scene { IsScene scene.now }
+    requires levels_size { length levels.old ≡ scene.now.network.now.nets }
+    requires group_room { group.now.size ≡ scene.now.network.now.nets }
+    requires told_size { length told.now ≡ scene.now.network.now.nets }
+    requires seen_size { length seen.old ≡ scene.now.network.now.nets }
+    requires watch_size { length watch.old ≡ scene.now.network.now.nets }
+    requires next_room { next.old.size ≡ scene.now.network.now.nets }
+    ensures leads { ((k : ℕ) → Waits group.now.nets k → IsFree scene.now.network.now scene.now.drive.now k)
         → ((k : ℕ) (told_as : Bool) → Waits group.now.nets k → told_at told.now k ≡ Some told_as
-        → Tells circuit drives (level_at charges) (level_at levels.old) k told_as)
-        → LeadsOn circuit drives charges levels.old levels.new }
+        → Tells scene.now.network.now scene.now.drive.now (level_at scene.now.charges.now) (level_at levels.old) k told_as)
+        → LeadsOn scene.now.network.now scene.now.drive.now scene.now.charges.now levels.old levels.new }
     ensures none { (k : ℕ) → Waits group.now.nets k → level_at levels.new k ≡ level.Unknown → told_at told.now k ≡ None }
-    ensures woken { AllAreWoken devices.now levels.old levels.new seen.new }
+    ensures woken { AllAreWoken scene.now.network.now scene.now.drive.now levels.old levels.new seen.new }
     ensures wakes { Wakes seen.old next.old.nets seen.new next.new.nets }
     ensures quiet { result ≡ false → next.new.nets ≡ next.old.nets }
     ensures rest { result ≡ false → levels.new ≡ levels.old }
     ensures fewer { result ≡ true → unknowns levels.new < unknowns levels.old }
     ensures levels_size { length levels.new ≡ length levels.old }
     ensures seen_size { length seen.new ≡ length seen.old }
+    ensures watch_size { length watch.new ≡ length watch.old }
     ensures next_room { next.new.size ≡ next.old.size }
 {
     let mut changed = false;
     for at in 0..group.len() {
-        changed |= tell_and_wake(devices, gates, group.get(at), told, levels, seen, next);
+        changed |= tell_and_wake(scene, group.get(at), told, levels, seen, watch, next);
     }
     changed
 }
 
 /// Tells a net that is unknown, where it is told a level, and answers whether it was. The ends of the devices that it gates
-/// are due then.
+/// are due then, or held.
 fn tell_and_wake(
-    devices: &[Device],
-    gates: &Gates,
+    scene: &Scene,
     net: u32,
     told: &[Option<bool>],
     levels: &mut [Level],
     seen: &mut [bool],
+    watch: &mut [usize],
     next: &mut Waiting,
 ) -> bool
-    requires below { All (NamesBelow (length seen.old)) devices.now }
-    requires gates { AreGates devices.now gates.now }
-    requires within { net < length gates.now.last.items }
-    requires levels_size { net < length levels.old }
-    requires told_size { net < length told.now }
-    requires next_room { next.old.size ≡ length seen.old }
+    requires scene { IsScene scene.now }
+    requires within { net < scene.now.network.now.nets }
+    requires levels_size { length levels.old ≡ scene.now.network.now.nets }
+    requires told_size { length told.now ≡ scene.now.network.now.nets }
+    requires seen_size { length seen.old ≡ scene.now.network.now.nets }
+    requires watch_size { length watch.old ≡ scene.now.network.now.nets }
+    requires next_room { next.old.size ≡ scene.now.network.now.nets }
     ensures tells { result ≡ true → TellsAt levels.old levels.new told.now net }
     ensures rest { result ≡ false → levels.new ≡ levels.old }
     ensures none { result ≡ false → level_at levels.old net ≡ level.Unknown → told_at told.now net ≡ None }
-    ensures woken { result ≡ true → AreWoken devices.now net seen.new }
+    ensures woken { result ≡ true → AreWoken scene.now.network.now scene.now.drive.now levels.new seen.new net }
     ensures wakes { Wakes seen.old next.old.nets seen.new next.new.nets }
     ensures quiet { result ≡ false → next.new.nets ≡ next.old.nets }
     ensures levels_size { length levels.new ≡ length levels.old }
     ensures seen_size { length seen.new ≡ length seen.old }
+    ensures watch_size { length watch.new ≡ length watch.old }
     ensures next_room { next.new.size ≡ next.old.size }
 {
     if !tell_one(net, told, levels) {
         return false;
     }
-    wake(devices, gates, net, seen, next);
+    let sight = Sight {
+        network: scene.network,
+        drive: scene.drive,
+        incidence: scene.incidence,
+        fixed: scene.fixed,
+        charges: scene.charges,
+        levels,
+    };
+    wake(&sight, scene.gates, net, seen, watch, next);
     true
 }
 

@@ -1,6 +1,7 @@
 // Nets that wait for their devices to be looked at.
 
 ghost use Rattle.std.specs.Prelude.{◌≡◌, ◌<◌, ◌≤◌, ◌+◌, ℕ, None, [], ◌∷◌, ◌++◌, length, IfOk, IfSome, slice_index_or};
+ghost use Rattle.switch_sim.specs.Rooms.{HaveRoom};
 ghost use Rattle.switch_sim.specs.Waiting.{Waits, IsBehind};
 
 use rx_text::NoMemory;
@@ -98,5 +99,33 @@ impl Waiting {
         let net = self.nets[self.count];
         self.flags[net as usize] = false;
         Some(net)
+    }
+}
+
+/// The lists of nets that a settling keeps: a group, a sure group of its members, the nets that are looked at next, and those
+/// behind them.
+#[derive(Drop)]
+pub(crate) struct Lists {
+    pub(crate) group: Waiting,
+    pub(crate) part: Waiting,
+    pub(crate) now: Waiting,
+    pub(crate) next: Waiting,
+}
+
+impl Lists {
+    /// Room for so many nets in each.
+    ///
+    /// # Errors
+    ///
+    /// `NoMemory` where an allocation was refused.
+    pub(crate) fn new(alloc: Global, size: usize) -> Result<Lists, NoMemory>
+        ensures { IfOk result (HaveRoom size) }
+    {
+        Ok(Lists {
+            group: Waiting::new(alloc, size)?,
+            part: Waiting::new(alloc, size)?,
+            now: Waiting::new(alloc, size)?,
+            next: Waiting::new(alloc, size)?,
+        })
     }
 }

@@ -12,8 +12,17 @@ use Rattle.switch_sim.proofs.settling.settle_levels.Goals as goal
 pub fix-requires-clause-distinct : goal.fix-requires-clause-distinct
 fix-requires-clause-distinct c = subst (AllPairs AreDistinct) (sym c.pads.ensures.pads) c.pads.ensures.valid.distinct
 
-pub tell_all-requires-clause-fixed : goal.tell_all-requires-clause-fixed
-tell_all-requires-clause-fixed c = λ net. c.fix.ensures.levels net ∙ ap (λ ps. fixed_level ps c.args.drive.now net) c.pads.ensures.pads
+pub tell_all-requires-clause-scene : goal.tell_all-requires-clause-scene
+tell_all-requires-clause-scene c = record {
+  valid = c.pads.ensures.valid;
+  fixed = λ net. c.fix.ensures.levels net ∙ ap (λ ps. fixed_level ps c.args.drive.now net) c.pads.ensures.pads;
+  chains = c.requires.chains;
+  last = c.requires.last;
+  gates = c.requires.gates;
+  gates_last = c.requires.gates_last;
+  fixed_size = c.fix.ensures.size ∙ c.requires.fixed_size;
+  charges_size = c.copy_from_slice.auto.self ∙ c.requires.charges_size;
+}
 
 pub tell_all-requires-clause-unknown : goal.tell_all-requires-clause-unknown
 tell_all-requires-clause-unknown c =

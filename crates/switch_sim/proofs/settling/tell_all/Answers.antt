@@ -1,20 +1,20 @@
-use Rattle.std.proofs.Common.{◌∙◌, refl, arith}
+use Rattle.std.proofs.Common.{◌<◌, ◌∙◌, refl, sym, ap, subst, length, arith}
 use Rattle.switch_net.specs.LeastLevels.AreToldByOnes.{unknown}
 use Rattle.switch_sim.specs.Simulation.{level_at}
-use Rattle.switch_sim.proofs.Settles.{then_leads, none_told, still_listed, less_work}
-use Rattle.switch_sim.proofs.Sweeping.{none_leads}
+use Rattle.switch_sim.specs.DueNets.{AreListed}
+use Rattle.switch_sim.specs.Waiting.{WaitingNets}
+use Rattle.switch_sim.proofs.Settles.{work, then_leads, none_told, still_listed, less_work}
+use Rattle.switch_sim.proofs.ToldLevels.{none_leads}
 use Rattle.switch_sim.proofs.settling.tell_all.Goals as goal
 
 pub loop-net-init : goal.loop-net-init
 loop-net-init c = record {
   levels_size = refl;
-  group_room = refl;
-  part_room = refl;
+  room = c.requires.room;
   told_size = refl;
   seen_size = refl;
-  now_room = refl;
-  next_room = refl;
-  leads = none_leads c.args.network.now c.args.drive.now c.args.charges.now c.args.levels.now;
+  watch_size = refl;
+  leads = none_leads c.args.scene.now.network.now c.args.scene.now.drive.now c.args.scene.now.charges.now c.args.levels.now;
   handled = c.requires.handled;
   listed = c.requires.listed;
 }
@@ -26,38 +26,38 @@ loop-net-preserved c =
     let remain = rw c.in-Some.is at c.take.ensures.some in
     record {
       levels_size = looked.levels_size ∙ before.levels_size;
-      group_room = looked.group_room ∙ before.group_room;
-      part_room = looked.part_room ∙ before.part_room;
+      room = looked.room;
       told_size = looked.told_size ∙ before.told_size;
       seen_size = looked.seen_size ∙ before.seen_size;
-      now_room = c.take.ensures.now_room ∙ before.now_room;
-      next_room = looked.next_room ∙ c.take.ensures.next_room ∙ before.next_room;
-      leads = then_leads c.args.network.now c.args.drive.now c.args.charges.now _ _ _ before.leads looked.leads;
+      watch_size = looked.watch_size ∙ before.watch_size;
+      leads = then_leads c.args.scene.now.network.now c.args.scene.now.drive.now c.args.scene.now.charges.now _ _ _ before.leads looked.leads;
       handled = looked.handled before.handled;
-      listed = still_listed c.args.network.now c.args.drive.now _ _ _ _ _ _ _ c.in-Some.net before.listed remain looked.listed looked.kept;
+      listed = subst (λ (w : WaitingNets). AreListed c.args.scene.now.network.now c.args.scene.now.drive.now c.look_if_due.new.seen w.nets c.look_if_due.new.lists.next.nets) (sym looked.now)
+          (still_listed c.args.scene.now.network.now c.args.scene.now.drive.now _ _ _ _ _ _ _ c.in-Some.net before.listed remain looked.listed looked.kept);
     }
 
 pub loop-net-smaller : goal.loop-net-smaller
 loop-net-smaller c =
-    let before = c.loop-net.invariant in
+    let before = c.loop-net.lists in
+    let left = c.take.new in
+    let looked = c.look_if_due.new in
+    let nets = c.args.scene.now.network.now.nets in
     let fewer = rw c.in-Some.is at c.take.ensures.less in
-    let room = c.requires.now_room in
-    let next_room = c.requires.next_room in
-    let now_left = c.take.ensures.now_room in
-    let next_left = c.take.ensures.next_room in
-    let next_new = c.look_if_due.ensures.next_room in
-    let now_before = before.now_room in
-    let next_before = before.next_room in
+    let same = ap (λ (w : WaitingNets). length w.nets) c.look_if_due.ensures.now in
+    let now_room = c.look_if_due.ensures.room.now in
+    let next_room = c.look_if_due.ensures.room.next in
     let fits = c.fits.ensures in
     let fits_next = c.look_if_due.ensures.fits in
-    less_work c.args.network.now.nets c.loop-net.levels c.look_if_due.new.levels c.loop-net.now.nets c.loop-net.next.nets c.take.new.now.nets
-    c.take.new.next.nets c.look_if_due.new.next.nets fewer (omega arith) (omega arith) c.look_if_due.ensures.closer
+    subst (λ (w : WaitingNets). work nets looked.levels w.nets looked.lists.next.nets < work nets c.loop-net.levels before.now.nets before.next.nets)
+    (sym c.look_if_due.ensures.now)
+    (less_work nets c.loop-net.levels looked.levels before.now.nets before.next.nets left.now.nets left.next.nets looked.lists.next.nets fewer
+    (omega (arith, same, now_room, fits)) (omega (arith, next_room, fits_next)) c.look_if_due.ensures.closer)
 
 pub returns-clause-levels : goal.returns-clause-levels
 returns-clause-levels c =
-    let circuit = c.args.network.now in
+    let circuit = c.args.scene.now.network.now in
     let done = c.loop-net.invariant in
-    c.settled_levels_are_least.ensures.any_order circuit c.requires.valid c.args.drive.now (level_at c.args.charges.now) (level_at c.loop-net.levels)
+    c.settled_levels_are_least.ensures.any_order circuit c.requires.scene.valid c.args.scene.now.drive.now (level_at c.args.scene.now.charges.now) (level_at c.loop-net.levels)
     (done.leads.ones (unknown (level_at c.args.levels.now) c.requires.unknown))
-    (none_told circuit c.args.drive.now c.args.charges.now c.loop-net.levels c.loop-net.seen c.loop-net.now.nets c.loop-net.next.nets done.handled done.listed
+    (none_told circuit c.args.scene.now.drive.now c.args.scene.now.charges.now c.loop-net.levels c.loop-net.seen c.loop-net.lists.now.nets c.loop-net.lists.next.nets done.handled done.listed
     (c.take.ensures.none c.in_default.is))

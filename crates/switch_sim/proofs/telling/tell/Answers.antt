@@ -7,15 +7,16 @@ use Rattle.switch_sim.specs.Waiting.{Waits}
 use Rattle.switch_sim.proofs.DueNets.{none_wakes, then_wakes, unknown_before, none_here, woken_next, none_told, quiet_next}
 use Rattle.switch_sim.proofs.Grouping.{number_waits}
 use Rattle.switch_sim.proofs.RightlyTold.{each_waits}
-use Rattle.switch_sim.proofs.Sweeping.{none_leads, leads_next, rest_next, fewer_next}
+use Rattle.switch_sim.proofs.ToldLevels.{none_leads, leads_next, rest_next, fewer_next}
 use Rattle.switch_sim.proofs.telling.tell.Goals as goal
 
 pub loop-at-init : goal.loop-at-init
 loop-at-init c = record {
   levels_size = refl;
   seen_size = refl;
+  watch_size = refl;
   next_room = refl;
-  leads = λ circuit drives charges sized free why. none_leads circuit drives charges c.args.levels.now;
+  leads = λ free why. none_leads c.args.scene.now.network.now c.args.scene.now.drive.now c.args.scene.now.charges.now c.args.levels.now;
   none = λ i lt. absurd (omega arith);
   woken = λ k differs. absurd (differs refl);
   wakes = none_wakes _ _;
@@ -31,7 +32,8 @@ loop-at-preserved c =
     let count = c.len-at-end.ensures.count in
     let lt : c.loop-at.at < length nets = omega arith in
     let size = before.levels_size in
-    let room = c.requires.levels_size in
+    let room = c.requires.group_room in
+    let wide = c.requires.levels_size in
     let within = c.get.ensures.within in
     let below : c.get.result < length c.loop-at.levels = omega arith in
     let member = subst (Waits nets) (sym c.get.ensures.net) (number_waits nets c.loop-at.at lt) in
@@ -40,16 +42,17 @@ loop-at-preserved c =
     record {
       levels_size = step.levels_size ∙ before.levels_size;
       seen_size = step.seen_size ∙ before.seen_size;
+      watch_size = step.watch_size ∙ before.watch_size;
       next_room = step.next_room ∙ before.next_room;
-      leads = λ circuit drives charges sized free why.
-          leads_next _ _ _ _ _ below c.loop-at.changed _ step.tells step.rest circuit drives charges
-          (size ∙ sized) (free c.get.result member) (λ level e. why c.get.result level member e) (before.leads circuit drives charges sized free why);
+      leads = λ free why.
+          leads_next _ _ _ _ _ below c.loop-at.changed _ step.tells step.rest c.args.scene.now.network.now c.args.scene.now.drive.now c.args.scene.now.charges.now
+          (size ∙ c.requires.levels_size) (free c.get.result member) (λ level e. why c.get.result level member e) (before.leads free why);
       none = none_told c.loop-at.levels _ nets c.args.told.now c.loop-at.at
           (unknown_before c.loop-at.levels _ c.args.told.now c.get.result below result step.tells step.rest)
           (subst (λ k. level_at c.tell_and_wake-changed.new.levels k ≡ Unknown → told_at c.args.told.now k ≡ None) c.get.ensures.net
           (none_here c.loop-at.levels _ c.args.told.now c.get.result below result step.tells step.rest step.none)) before.none;
-      woken = woken_next c.loop-at.levels _ c.args.told.now c.get.result below result step.tells step.rest c.args.devices.now c.args.levels.now
-          _ _ _ _ step.wakes step.woken before.woken;
+      woken = woken_next c.loop-at.levels _ c.args.told.now c.get.result below result step.tells step.rest c.args.scene.now.network.now c.args.scene.now.drive.now
+          c.args.levels.now _ _ _ _ step.wakes step.woken before.woken;
       wakes = then_wakes _ _ _ _ _ _ before.wakes step.wakes;
       quiet = quiet_next _ _ _ c.loop-at.changed result before.quiet step.quiet;
       rest = rest_next _ _ _ c.args.told.now _ below _ _ step.tells step.rest before.rest;

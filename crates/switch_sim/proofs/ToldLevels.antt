@@ -1,5 +1,5 @@
 -- One more net that is told.
-use Rattle.std.proofs.Common.{◌≡◌, ◌≢◌, inl, inr, ℕ, ◌+◌, ◌<◌, ◌||◌, Bool, true, false, List, Option, Some, None, length, get_or, get_or-set_same, get_or-set_other, refl, sym, ap, ◌∙◌, subst, arith}
+use Rattle.std.proofs.Common.{◌≡◌, ◌≢◌, inl, inr, ℕ, ◌<◌, ◌||◌, Bool, true, false, List, Option, Some, None, length, get_or, get_or-set_same, get_or-set_other, refl, sym, ap, ◌∙◌, subst, arith}
 use Rattle.std.proofs.Math.ListN.{set}
 use Rattle.std.proofs.lemmas.Bool.{cases_eq}
 use Rattle.std.proofs.lemmas.List.Sums.{sum_by-set}
@@ -12,7 +12,7 @@ use Rattle.switch_net.specs.declared.network.Level.{Level}
 use Rattle.switch_net.specs.declared.network.Level.TheVariants.{Unknown}
 use Rattle.switch_sim.specs.Grouping.{told_at, RightlyTold}
 use Rattle.switch_sim.specs.Simulation.{level_at}
-use Rattle.switch_sim.specs.Sweeping.{IsToldNothing, TellsAt, LeadsOn, one_unknown, unknowns}
+use Rattle.switch_sim.specs.ToldLevels.{IsToldNothing, TellsAt, LeadsOn, one_unknown, unknowns}
 
 none_unknown : (b : Bool) → one_unknown (level_of b) ≡ 0
 none_unknown true = refl
@@ -90,19 +90,6 @@ module _ (first old new : List Level) (told : List (Option Bool)) (net : ℕ) (l
       by true false e f g h k = let one = g refl in let two = ap unknowns (k refl) in omega arith
       by false true e f g h k = let one = ap unknowns (f refl) in let two = fewer_unknown old new told net lt (h refl) in omega arith
       by false false e f g h k = absurd (cc)
-
-pub none_next : (first old : List Level) (xs : List ℕ) (told : List (Option Bool)) (at : ℕ) (changed result : Bool) → (changed ≡ false → old ≡ first)
-    → (result ≡ false → level_at old (get_or xs at 0) ≡ Unknown → told_at told (get_or xs at 0) ≡ None)
-    → (changed ≡ false → (i : ℕ) → i < at → level_at first (get_or xs i 0) ≡ Unknown → told_at told (get_or xs i 0) ≡ None)
-    → (changed || result) ≡ false → (i : ℕ) → i < at + 1 → level_at first (get_or xs i 0) ≡ Unknown → told_at told (get_or xs i 0) ≡ None
-none_next first old xs told at changed result same now before e i lt unknown =
-    let both = neither changed result e in
-    elim (cases_eq i at) [
-      | inl is ↦
-          subst (λ k. told_at told (get_or xs k 0) ≡ None) (sym is)
-          (now both.1 (ap (λ l. level_at l (get_or xs at 0)) (same both.0) ∙ subst (λ k. level_at first (get_or xs k 0) ≡ Unknown) is unknown))
-      | inr other ↦ before both.0 i (omega arith) unknown
-    ]
 
 -- ---- a group that was looked at
 
