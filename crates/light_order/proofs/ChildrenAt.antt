@@ -1,5 +1,5 @@
 -- Children by the sizes that stand in a list.
-use Rattle.std.proofs.Common.{◌≡◌, ◌∙◌, ℕ, ◌<◌, Some, List, length, get_or, slice_get, slice_index, All, refl, sym, subst, arith}
+use Rattle.std.proofs.Common.{◌≡◌, ◌∙◌, ℕ, ◌<◌, Some, None, Option, IfSome, List, length, get_or, slice_get, slice_index, All, refl, sym, subst, arith}
 use Rattle.std.proofs.lemmas.Option.{slice_get-get_or}
 use Rattle.star_normal.specs.declared.node.Node.{Node}
 use Rattle.star_normal.specs.declared.node.NodeKind.{NodeKind}
@@ -7,6 +7,7 @@ use Rattle.star_normal.specs.declared.node.NodeKind.TheVariants.{Leaf, Seq, Alt}
 use Rattle.star_normal.specs.Tables.{TreeTable, IsTree, parts}
 use Rattle.star_normal.specs.Sizes.{AreSizes, size_at, light_child, heavy_child}
 use Rattle.light_order.specs.Order.{light_of, heavy_of}
+use Rattle.light_order.proofs.Parts.{PartOf, tip, fork, shape, node_at}
 use Rattle.light_order.proofs.Unrolled.{light_is, heavy_is}
 
 same_light : (f g : ℕ → ℕ) (kind : NodeKind) → All (λ c. f c ≡ g c) (parts kind) → light_child f kind ≡ light_child g kind
@@ -32,3 +33,15 @@ module _ (table : TreeTable) (t : IsTree table) (sizes : List ℕ) (z : AreSizes
 
   pub heavy_at : heavy_child (slice_index sizes) (get_or some v d).kind ≡ heavy_of table v
   heavy_at = same_heavy (slice_index sizes) (size_at table.nodes) (get_or some v d).kind same_sizes ∙ sym (heavy_is table v (get_or some v d) w here)
+
+-- a light child is a node of the tree
+inside_by : (table : TreeTable) (v : ℕ) (node : Node) → v < length table.nodes → slice_get table.nodes v ≡ Some node → PartOf table v node → (o : Option ℕ) → o ≡ light_of table v
+    → IfSome o (λ c. c < length table.nodes)
+inside_by table v node w e (tip a b c d is) o f = let g : o ≡ None = f ∙ light_is table v node e ∙ a in subst (λ x. IfSome x (λ c. c < length table.nodes)) (sym g) tt
+inside_by table v node w e (fork l h a b p q f is) o g =
+    let s : o ≡ Some l = g ∙ light_is table v node e ∙ a in
+    let lt : l < length table.nodes = omega arith in
+    subst (λ x. IfSome x (λ c. c < length table.nodes)) (sym s) lt
+
+pub light_inside : (table : TreeTable) → IsTree table → (v : ℕ) → v < length table.nodes → (o : Option ℕ) → o ≡ light_of table v → IfSome o (λ c. c < length table.nodes)
+light_inside table t v w o f = let n = node_at table t v w in inside_by table v n.0 w n.1 (shape table t v n.0 n.1) o f

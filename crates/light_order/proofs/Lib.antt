@@ -11,3 +11,4 @@ mod Held
 mod Bounds
 mod Spread
 mod Parents
+mod Positions

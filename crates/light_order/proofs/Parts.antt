@@ -15,7 +15,7 @@ use Rattle.light_order.proofs.Made.{made, made_more, made_next, made_length}
 use Rattle.light_order.proofs.Kids.{Kids, none, both, kids}
 use Rattle.light_order.proofs.Uses.{upto, upto_next, parts_sum, uses_sum}
 
-split_at : {A : Type 0} (xs : List A) (k : ℕ) (x : A) → slice_get xs k ≡ Some x → xs ≡ take k xs ++ x ∷ drop (suc k) xs
+pub split_at : {A : Type 0} (xs : List A) (k : ℕ) (x : A) → slice_get xs k ≡ Some x → xs ≡ take k xs ++ x ∷ drop (suc k) xs
 split_at xs k x e =
     let within : k < length xs = slice_get_within xs k x e in
     let read : get_or xs k x ≡ x = get_or_from_slice_get xs k x x e in

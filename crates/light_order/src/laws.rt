@@ -1,6 +1,6 @@
 //! Laws of the light-first order. Each is the contract of a function that does nothing.
 
-ghost use Rattle.std.specs.Prelude.{◌≡◌, ℕ, Bool, ◌+◌, ◌*◌, ◌<◌, ◌≤◌, ◌^◌, ◌==◌, Some, None, length, count_by, sum_by};
+ghost use Rattle.std.specs.Prelude.{◌≡◌, ℕ, Bool, ◌+◌, ◌*◌, ◌<◌, ◌≤◌, ◌^◌, ◌==◌, Some, None, length, count_by, slice_index, sum_by};
 ghost use Rattle.std.specs.List.{range_with_len};
 ghost use Rattle.star_normal.specs.Tables.{TreeTable, IsTree};
 ghost use Rattle.star_normal.specs.Sizes.{size_at};
@@ -16,6 +16,9 @@ pub fn each_node_stands_once()
     ensures number { (table : TreeTable) → IsTree table → length (light_first table) ≡ length table.nodes + 1 }
     ensures sums { (table : TreeTable) → IsTree table → (value : ℕ → ℕ)
         → sum_by value (light_first table) ≡ sum_by value (range_with_len 0 (length table.nodes + 1)) }
+    ensures inside { (table : TreeTable) → IsTree table → (i : ℕ) → i < length table.nodes + 1 → slice_index (light_first table) i ≤ length table.nodes }
+    ensures numbers { (table : TreeTable) → IsTree table → (i : ℕ) → i < length table.nodes + 1
+        → number_of (light_first table) (slice_index (light_first table) i) ≡ Some i }
 {}
 
 /// In each stretch of at most 4^j entries of the light-first order at most 2j edges with both ends there cross a place, and

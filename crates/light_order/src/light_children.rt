@@ -1,8 +1,8 @@
 // The light and the heavy child of each node.
 
-ghost use Rattle.std.specs.Prelude.{◌≡◌, ◌<◌, ◌≤◌, All, length, slice_index};
+ghost use Rattle.std.specs.Prelude.{◌≡◌, ◌<◌, ◌≤◌, All, IfSome, length, slice_index};
 ghost use Rattle.star_normal.specs.Sizes.{AreSizes, heavier, heavy_child, light_child, lighter};
-ghost use Rattle.star_normal.specs.Tables.{parts};
+ghost use Rattle.star_normal.specs.Tables.{IsTree, parts};
 ghost use Rattle.light_order.specs.Order.{heavy_of, light_of};
 
 use star_normal::{NodeKind, Tree};
@@ -14,6 +14,9 @@ pub fn children(tree: &Tree, sizes: &[u32], node: u32) -> (Option<u32>, Option<u
     requires node { node ≤ length tree.now.nodes }
     ensures light { result.0 ≡ light_of tree.now node }
     ensures heavy { result.1 ≡ heavy_of tree.now node }
+    ensures inside { IfSome result.0 (λ child. child < length tree.now.nodes) }
+    ensures few { length tree.now.nodes ≤ 8191 }
+    ensures tree { IsTree tree.now }
 {
     let nodes = tree.nodes();
     if node as usize == nodes.len() {

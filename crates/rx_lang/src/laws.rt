@@ -2,7 +2,7 @@
 //! The letters are input vectors under any table of symbols, and the occurrences of symbols.
 
 ghost use Rattle.std.specs.Prelude.{◌≡◌, ◌+◌, ◌*◌, ◌^◌, ℕ, List, [], ◌∷◌, map};
-ghost use Rattle.rx_lang.specs.Squares.{most_lines};
+ghost use Rattle.rx_lang.specs.Squares.{side_bound};
 ghost use Rattle.rx_lang.specs.Expression.{Expr};
 ghost use Rattle.rx_lang.specs.Copies.{IsBounded, copied, occurrences};
 ghost use Rattle.rx_lang.specs.Meaning.{Spells};
@@ -58,8 +58,9 @@ pub fn trees_are_made_of_their_children()
     ensures bounded { (tables : Tables) (k : ℕ) → IsSpecification tables → IsBounded (tree_at (trees tables.nodes) k) }
 {}
 
-/// The most lines of squares, written out for layouts of up to 4096 leaves, and for all sizes.
-pub fn most_lines_written_out()
-    ensures few { map most_lines (0 ∷ 1 ∷ 2 ∷ 3 ∷ 4 ∷ 5 ∷ 6 ∷ 7 ∷ []) ≡ 1 ∷ 11 ∷ 37 ∷ 95 ∷ 217 ∷ 467 ∷ 973 ∷ 1991 ∷ [] }
-    ensures all { (j : ℕ) → most_lines j + 6 * j + 15 ≡ 16 * 2 ^ j }
+/// The bound of the sides of squares, written out for layouts of up to 4096 leaves. A square is two times two squares, between
+/// which at most 6j edges run, at most three of them to light children; a light edge takes two rows, any other line is one an edge.
+pub fn side_bounds_written_out()
+    ensures few { map side_bound (0 ∷ 1 ∷ 2 ∷ 3 ∷ 4 ∷ 5 ∷ 6 ∷ 7 ∷ []) ≡ 1 ∷ 11 ∷ 37 ∷ 95 ∷ 217 ∷ 467 ∷ 973 ∷ 1991 ∷ [] }
+    ensures four { (j : ℕ) → side_bound (j + 1) ≡ 2 * side_bound j + 6 * (j + 1) + 3 }
 {}

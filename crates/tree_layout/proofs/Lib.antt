@@ -1,0 +1,14 @@
+mod Recurrence
+mod Entries
+mod Opened
+mod FourPowers
+mod Sides
+mod Between
+mod Joined
+mod Ports
+mod Apart
+mod Steps
+mod Numbering
+mod Ordered
+mod Counting
+mod Whole
