@@ -7,3 +7,5 @@ pub mod Pairs
 pub mod Leads
 pub mod Sweeps
 pub mod Queries
+pub mod Climbs
+pub mod Held

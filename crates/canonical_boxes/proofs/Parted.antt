@@ -1,12 +1,13 @@
 -- Boxes in runs, of one layer, are canonical; any two of them are one or parted.
-use Rattle.std.proofs.Common.{◌≡◌, ◌↔◌, ℕ, ℤ, ◌<ℤ◌, List, [], ◌∷◌, ◌⊎◌, inl, inr, refl, sym, ◌∙◌, ap, arith, subst}
+use Rattle.std.proofs.Common.{◌≡◌, ◌↔◌, ℕ, ℤ, ◌<ℤ◌, List, [], ◌∷◌, ◌⊎◌, map, inl, inr, refl, sym, ◌∙◌, ap, arith, subst}
 use Rattle.std.proofs.lemmas.Int.{ints, by_lt_z}
 use Rattle.geom.specs.declared.layer.Layer.{Layer}
+use Rattle.geom.specs.declared.layer.Layer.TheVariants.{Metal}
 use Rattle.geom.specs.Squares.{BoxShape, IsBox, Inside, Covered}
-use Rattle.geom.specs.Merged.{rank, Precedes, Separate, Heads, InRuns}
+use Rattle.geom.specs.Merged.{rank, Precedes, Separate, Heads, InRuns, Merges}
 use Rattle.geom.specs.Rows.{Among, Pairwise, Over}
 use Rattle.canonical_boxes.specs.Canonical.{BeginsBefore, AreParted, IsCanonical, IsAt}
-use Rattle.canonical_boxes.specs.Chosen.{IsChosen}
+use Rattle.canonical_boxes.specs.Chosen.{IsChosen, in_metal}
 use Rattle.canonical_boxes.proofs.Lists.{pair_at, by_order}
 
 -- ---- from boxes in runs
@@ -104,6 +105,24 @@ chosen_squares drawn layer m c x y = (
   (λ h. let o : OverBy m x y = over_by m x y h in covered_of drawn o.box layer x y (c.back o.box o.among) (c.layers o.box o.among) o.inside),
   (λ h. over_where drawn m layer x y c.forth h),
 )
+
+metal_over : (bs : List BoxShape) (x y : ℤ) → Covered (map in_metal bs) Metal x y → Over bs x y
+metal_over [] x y h = absurd h
+metal_over (b ∷ bs) x y (inl h) = let i : Inside (in_metal b) x y = h.1 in inl (record { left = i.left; right = i.right; bottom = i.bottom; top = i.top })
+metal_over (b ∷ bs) x y (inr h) = inr (metal_over bs x y h)
+
+over_metal : (bs : List BoxShape) (x y : ℤ) → Over bs x y → Covered (map in_metal bs) Metal x y
+over_metal [] x y h = absurd h
+over_metal (b ∷ bs) x y (inl i) = inl (refl, record { left = i.left; right = i.right; bottom = i.bottom; top = i.top })
+over_metal (b ∷ bs) x y (inr h) = inr (over_metal bs x y h)
+
+-- boxes in one layer, merged, and taken out again
+pub merged_squares : (bs metal merged m : List BoxShape) → metal ≡ map in_metal bs → Merges metal merged → ((x y : ℤ) → Over m x y ↔ Covered merged Metal x y)
+    → (x y : ℤ) → Over m x y ↔ Over bs x y
+merged_squares bs metal merged m e h same x y =
+    let P : List BoxShape → Type 0 = λ l. Covered merged Metal x y ↔ Covered l Metal x y in
+    let k : Covered merged Metal x y ↔ Covered (map in_metal bs) Metal x y = subst P e (h.same Metal x y) in
+    ((λ o. metal_over bs x y (k.0 ((same x y).0 o))), (λ o. (same x y).1 (k.1 (over_metal bs x y o))))
 
 -- ---- two boxes by their numbers
 

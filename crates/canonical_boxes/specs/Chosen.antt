@@ -1,6 +1,7 @@
 -- The boxes of a layer.
 use Rattle.std.specs.Prelude.{◌≡◌, List}
 use Rattle.geom.specs.declared.layer.Layer.{Layer}
+use Rattle.geom.specs.declared.layer.Layer.TheVariants.{Metal}
 use Rattle.geom.specs.Squares.{BoxShape}
 use Rattle.geom.specs.Merged.{InRuns}
 use Rattle.geom.specs.Rows.{Among}
@@ -11,3 +12,7 @@ pub record IsChosen (drawn : List BoxShape) (layer : Layer) (chosen : List BoxSh
   pub layers : (b : BoxShape) → Among chosen b → b.layer ≡ layer
   pub forth : (b : BoxShape) → Among drawn b → b.layer ≡ layer → Among chosen b
   pub runs : InRuns drawn → InRuns chosen
+
+-- the box in metal
+abbrev pub in_metal : BoxShape → BoxShape
+in_metal b = record { layer = Metal; x1 = b.x1; y1 = b.y1; x2 = b.x2; y2 = b.y2 }

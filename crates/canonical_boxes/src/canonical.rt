@@ -1,13 +1,13 @@
 // Sets of squares as boxes.
 
-ghost use Rattle.std.specs.Prelude.{◌≡◌, ◌↔◌, ℤ, IfOk, IsTrue};
+ghost use Rattle.std.specs.Prelude.{◌≡◌, ◌↔◌, ℤ, IfOk, IsTrue, map};
 ghost use Rattle.geom.specs.Squares.{IsBox, Covered};
 ghost use Rattle.geom.specs.Merged.{InRuns};
 ghost use Rattle.geom.specs.Rows.{Over};
 ghost use Rattle.canonical_boxes.specs.Canonical.{IsCanonical};
-ghost use Rattle.canonical_boxes.specs.Chosen.{IsChosen};
+ghost use Rattle.canonical_boxes.specs.Chosen.{IsChosen, in_metal};
 
-use geom::{Box2, Layer};
+use geom::{Box2, Layer, merge_runs};
 use rx_text::NoMemory;
 use std::alloc::Global;
 use std::marker::Model;
@@ -45,12 +45,46 @@ impl Canonical {
         Ok(Canonical { boxes })
     }
 
+    /// The squares that these boxes cover, whatever their layers and however they overlap.
+    ///
+    /// # Errors
+    ///
+    /// `NoMemory` where an allocation was refused.
+    pub fn cover(alloc: Global, boxes: &[Box2]) -> Result<Canonical, NoMemory>
+        ensures { IfOk result (λ set. (x y : ℤ) → Over set x y ↔ Over boxes.now x y) }
+    {
+        let one_layer = in_one_layer(alloc, boxes)?;
+        let merged = merge_runs(alloc, &one_layer)?;
+        let set = Canonical::of_layer(alloc, &merged, Layer::Metal)?;
+        Ok(set)
+    }
+
     /// Its boxes, which are named by their numbers in this list.
     pub fn boxes(&self) -> &[Box2]
         ensures list { result.now ≡ self.now }
         ensures canonical { IsCanonical self.now }
     {
         &self.boxes
+    }
+}
+
+/// The boxes, all in metal.
+fn in_one_layer(alloc: Global, boxes: &[Box2]) -> Result<Vec<Box2>, NoMemory>
+    ensures { IfOk result (λ same. same.items ≡ map in_metal boxes.now) }
+{
+    Ok(boxes.iter().map(|b| in_metal(b)).collect(alloc)?)
+}
+
+/// The box in metal.
+fn in_metal(b: &Box2) -> Box2
+    ensures { result ≡ in_metal b.now }
+{
+    Box2 {
+        layer: Layer::Metal,
+        x1: b.x1,
+        y1: b.y1,
+        x2: b.x2,
+        y2: b.y2,
     }
 }
 

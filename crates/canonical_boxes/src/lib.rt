@@ -2,6 +2,7 @@
 #![tactic(auto)]
 
 mod canonical;
+mod holding;
 pub mod laws;
 mod locating;
 mod standing;
@@ -9,6 +10,7 @@ mod sweep;
 mod touching;
 
 pub use canonical::Canonical;
+pub use holding::{Area, holds};
 pub use locating::locate;
 pub use rx_text::NoMemory;
 pub use touching::{Touch, touches};
