@@ -20,7 +20,7 @@ pub enum Column {
 }
 
 /// The columns of a matrix whose nets have their poly in the columns `at`.
-pub(crate) fn columns_of(alloc: Global, at: &[u32], cols: u32) -> Result<Vec<Column>, NoMemory>
+pub fn columns_of(alloc: Global, at: &[u32], cols: u32) -> Result<Vec<Column>, NoMemory>
     requires { AreWires at.now cols }
     ensures { IfOk result (λ columns. columns.items ≡ map (column_of at.now) (range_with_len 0 cols)) }
 {

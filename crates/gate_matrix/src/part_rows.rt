@@ -13,7 +13,7 @@ use rx_text::{NoMemory, Role};
 use std::alloc::Global;
 
 /// The rows of the part, behind those that it does not need.
-pub(crate) fn part_rows(alloc: Global, part: &Part, rows: u32) -> Result<Vec<Row>, NoMemory>
+pub fn part_rows(alloc: Global, part: &Part, rows: u32) -> Result<Vec<Row>, NoMemory>
     requires { height_of_part part.now ≤ rows }
     ensures rows { IfOk result (λ list. list.items ≡ replicate (rows - height_of_part part.now) blank_row ++ rows_of_part part.now) }
     ensures part { IsPart part.now }
@@ -37,7 +37,7 @@ fn blank_rows(alloc: Global, count: u32) -> Result<Vec<Row>, NoMemory>
 }
 
 /// A row of this kind that goes on nowhere.
-fn closed_row(alloc: Global, kind: RowKind, metal: u32, gated: &[u32]) -> Result<Row, NoMemory>
+pub fn closed_row(alloc: Global, kind: RowKind, metal: u32, gated: &[u32]) -> Result<Row, NoMemory>
     ensures { IfOk result (λ row. row ≡ closed_row kind metal gated.now) }
 {
     let gated = Vec::from_slice(alloc, gated)?;

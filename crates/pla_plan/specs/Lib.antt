@@ -1,0 +1,3 @@
+-- Definitions that public contracts cite:
+pub mod Planes
+pub mod Fits

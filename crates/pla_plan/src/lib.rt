@@ -1,0 +1,10 @@
+//! Programmable logic arrays: terms and sums of terms as two planes of gate matrices, over the part of a netlist that feeds them.
+#![tactic(auto)]
+
+pub mod plane_rows;
+pub mod planes;
+pub mod tiles;
+
+pub use planes::Planes;
+pub use rx_text::NoMemory;
+pub use tiles::PlaneTiles;
