@@ -1,5 +1,5 @@
 -- The columns of a gate matrix.
-use Rattle.std.specs.Prelude.{ℕ, zero, suc, ◌+◌, ◌≤◌, ◌==◌, if◌then◌else◌, List, [], ◌∷◌}
+use Rattle.std.specs.Prelude.{◌≡◌, ℕ, zero, suc, ◌+◌, ◌<◌, ◌≤◌, ◌==◌, if◌then◌else◌, List, [], ◌∷◌, length, get_or}
 use Rattle.gate_matrix.specs.declared.column.Column.{Column}
 use Rattle.gate_matrix.specs.declared.column.Column.TheVariants.{Load, Gate, Wire, Device, Free}
 
@@ -22,3 +22,12 @@ AreWiresFrom first (a ∷ at) cols = (first ≤ a) × AreWiresFrom (a + 2) at co
 -- The first two columns are for loads.
 abbrev pub AreWires : List ℕ → ℕ → Type 0
 AreWires at cols = AreWiresFrom 2 at cols
+
+-- Each net has its poly in one column, behind those of loads, with another behind it.
+pub record AreOfNets (at : List ℕ) (cols : ℕ) : Type 0 where
+  pub inside : (net : ℕ) → net < length at → (2 ≤ get_or at net 0) × (get_or at net 0 + 2 ≤ cols)
+  pub wire : (net : ℕ) → net < length at → column_of at (get_or at net 0) ≡ Wire net
+  pub net_of : (net col : ℕ) → column_of at col ≡ Wire net → (net < length at) × (get_or at net 0 ≡ col)
+
+abbrev pub ColumnsAreOfNets : Type 0
+ColumnsAreOfNets = (at : List ℕ) (cols : ℕ) → AreWires at cols → AreOfNets at cols

@@ -1,5 +1,7 @@
 //! What gate matrices are. Each law is the contract of a function that runs nothing.
 
+ghost use Rattle.gate_matrix.specs.Columns.{ColumnsAreOfNets};
+ghost use Rattle.gate_matrix.specs.Drawn.{PartsAreMatrices};
 ghost use Rattle.gate_matrix.specs.Matrices.{MatricesArePlans};
 ghost use Rattle.gate_matrix.specs.MatrixNets.{MatricesAreModules};
 ghost use Rattle.gate_matrix.specs.Modules.{PartsAreModules};
@@ -22,6 +24,16 @@ pub fn matrices_are_modules()
     matrices_are_plans();
     names_are_nets();
 }
+
+/// Each net of a matrix has its poly in one column.
+pub fn columns_are_of_nets()
+    ensures { ColumnsAreOfNets }
+{}
+
+/// The rows of a part make a matrix.
+pub fn parts_are_matrices()
+    ensures { PartsAreMatrices }
+{}
 
 /// The tiles of a part make its network: each of their nets is a net of the part, joined with all that has its name, the devices
 /// are the part's, and each net's poly leads out in its column, to the north and to the south.

@@ -1,5 +1,5 @@
 -- When terms, sums and a part make an array.
-use Rattle.std.specs.Prelude.{◌≡◌, ◌≢◌, ℕ, ◌+◌, ◌-◌, ◌*◌, ◌^◌, ◌<◌, ◌≤◌, length, get_or, List, [], All, AllPairs}
+use Rattle.std.specs.Prelude.{◌≡◌, ◌≢◌, ℕ, ◌+◌, ◌-◌, ◌*◌, ◌^◌, ◌<◌, ◌≤◌, length, get_or, [], All, AllPairs}
 use Rattle.nor_net.specs.Netlist.{NorGate}
 use Rattle.gate_matrix.specs.Drawn.{FitsPart}
 use Rattle.pla_plan.specs.Planes.{PlaneTables, plane_rows, right_from, right_end}

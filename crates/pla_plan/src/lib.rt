@@ -1,10 +1,12 @@
 //! Programmable logic arrays: terms and sums of terms as two planes of gate matrices, over the part of a netlist that feeds them.
 #![tactic(auto)]
 
+pub mod matrix;
+pub mod pla;
+pub mod plane_parts;
 pub mod plane_rows;
 pub mod planes;
-pub mod tiles;
 
+pub use pla::Pla;
 pub use planes::Planes;
 pub use rx_text::NoMemory;
-pub use tiles::PlaneTiles;

@@ -1,9 +1,9 @@
 // The rows of the two planes.
 
-ghost use Rattle.std.specs.Prelude.{◌≡◌, ◌+◌, ◌-◌, ◌≤◌, ◌<◌, ◌^◌, ◌++◌, ◌∷◌, [], length, map, flat_map, All, IfOk, OnOk};
+ghost use Rattle.std.specs.Prelude.{◌≡◌, ◌+◌, ◌-◌, ◌≤◌, ◌<◌, ◌^◌, ◌++◌, ◌∷◌, [], length, map, All, IfOk, OnOk};
 ghost use Rattle.gate_matrix.specs.Rows.{blank_row};
 ghost use Rattle.pla_plan.specs.Fits.{IsPlaneGate};
-ghost use Rattle.pla_plan.specs.Planes.{onward_row, open_gate_rows, left_rows, rows_of_sum, rows_of_sums};
+ghost use Rattle.pla_plan.specs.Planes.{onward_row, open_gate_rows, left_rows, rows_of_terms, rows_of_sum, rows_of_sums};
 
 use crate::planes::Planes;
 use gate_matrix::part_rows::closed_row;
@@ -32,19 +32,19 @@ fn blank_row(alloc: Global) -> Result<Row, NoMemory>
     closed_row(alloc, RowKind::Through, 0, &[])
 }
 
-/// Adds a gate with its load, whose output goes on to the east. The high supply is net 0; `elsewhere` is the number of no net.
+/// Adds a gate with its load, whose output goes on to the east. The high supply is net 0.
 fn add_open_gate(
     alloc: Global,
     rows: &mut Vec<Row>,
     gnd: u32,
-    elsewhere: u32,
+    out: u32,
     gated: &[u32],
 ) -> Result<(), NoMemory>
-    ensures { OnOk result (rows.new.items ≡ rows.old.items ++ open_gate_rows gnd elsewhere gated.now) }
+    ensures { OnOk result (rows.new.items ≡ rows.old.items ++ open_gate_rows gnd out gated.now) }
 {
     rows.push(closed_row(alloc, RowKind::Vdd, 0, &[])?)?;
     rows.push(closed_row(alloc, RowKind::Load, 0, &[])?)?;
-    rows.push(onward_row(alloc, RowKind::Out, elsewhere, gated)?)?;
+    rows.push(onward_row(alloc, RowKind::Out, out, gated)?)?;
     rows.push(closed_row(alloc, RowKind::Middle, 0, gated)?)?;
     rows.push(closed_row(alloc, RowKind::Bottom, gnd, gated)?)?;
     Ok(())
@@ -67,28 +67,36 @@ pub(crate) fn left_rows(alloc: Global, planes: &Planes) -> Result<Vec<Row>, NoMe
     Ok(rows)
 }
 
-/// Adds the rows of all terms.
+/// Adds the rows of all terms, whose outputs are the nets behind the ground.
 fn add_terms(alloc: Global, rows: &mut Vec<Row>, gnd: u32, terms: &[Gate]) -> Result<(), NoMemory>
-    requires { gnd < 2 ^ 31 }
-    ensures { OnOk result (rows.new.items ≡ rows.old.items ++ flat_map (λ term. open_gate_rows gnd (gnd + 1) term.inputs) terms.now) }
+    requires { gnd + length terms.now < 2 ^ 31 }
+    ensures { OnOk result (rows.new.items ≡ rows.old.items ++ rows_of_terms gnd (gnd + 1) terms.now) }
 {
-    for term in terms {
-        add_open_gate(alloc, rows, gnd, gnd + 1, term.inputs())?;
+    for number in 0..terms.len() {
+        add_open_gate(
+            alloc,
+            rows,
+            gnd,
+            gnd + 1 + number as u32,
+            terms[number].inputs(),
+        )?;
     }
     Ok(())
 }
 
 /// The rows of the right plane before it is laid on its side: eight for each sum, of which the very last ends the nets.
 pub(crate) fn right_rows(alloc: Global, planes: &Planes) -> Result<Vec<Row>, NoMemory>
-    ensures { IfOk result (λ rows. rows.items ≡ rows_of_sums planes.now planes.now.sums) }
+    ensures { IfOk result (λ rows. rows.items ≡ rows_of_sums planes.now (length planes.now.terms + 2) planes.now.sums) }
 {
     let sums = planes.sums();
+    let first = planes.terms().len() as u32 + 2;
     let mut rows = Vec::new(alloc);
     for number in 0..sums.len() {
         add_sum(
             alloc,
             &mut rows,
             planes,
+            first + number as u32,
             &sums[number],
             number + 1 == sums.len(),
         )?;
@@ -101,15 +109,16 @@ fn add_sum(
     alloc: Global,
     rows: &mut Vec<Row>,
     planes: &Planes,
+    out: u32,
     sum: &Gate,
     last: bool,
 ) -> Result<(), NoMemory>
     requires { IsPlaneGate planes.now.part.nets (planes.now.part.nets + length planes.now.terms) sum.now }
-    ensures { OnOk result (rows.new.items ≡ rows.old.items ++ rows_of_sum planes.now sum.now last) }
+    ensures { OnOk result (rows.new.items ≡ rows.old.items ++ rows_of_sum planes.now out sum.now last) }
 {
     let gnd = planes.terms().len() as u32 + 1;
     let gated = plane_nets(alloc, planes.part().nets(), sum.inputs())?;
-    add_open_gate(alloc, rows, gnd, gnd + 1, &gated)?;
+    add_open_gate(alloc, rows, gnd, out, &gated)?;
     rows.push(blank_row(alloc)?)?;
     rows.push(blank_row(alloc)?)?;
     rows.push(closed_row(

@@ -107,21 +107,24 @@ impl Planes {
 
     /// The columns of the part's nets.
     pub fn at(&self) -> &[u32]
-        ensures { result.now ≡ self.now.at }
+        ensures columns { result.now ≡ self.now.at }
+        ensures array { IsArray self.now }
     {
         &self.at
     }
 
     /// How many rows of tiles it has.
     pub fn rows(&self) -> u32
-        ensures { result ≡ self.now.rows }
+        ensures number { result ≡ self.now.rows }
+        ensures array { IsArray self.now }
     {
         self.rows
     }
 
     /// How many columns of tiles it has.
     pub fn cols(&self) -> u32
-        ensures { result ≡ self.now.cols }
+        ensures number { result ≡ self.now.cols }
+        ensures array { IsArray self.now }
     {
         self.cols
     }
@@ -135,7 +138,8 @@ impl Planes {
 
     /// How many rows the planes have.
     pub(crate) fn plane_rows(&self) -> u32
-        ensures { result ≡ plane_rows self.now }
+        ensures number { result ≡ plane_rows self.now }
+        ensures array { IsArray self.now }
     {
         5 * self.terms.len() as u32 + 7
     }

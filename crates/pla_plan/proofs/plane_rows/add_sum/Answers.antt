@@ -1,4 +1,4 @@
-use Rattle.std.proofs.Common.{◌≡◌, ◌+◌, ◌-◌, ◌≤◌, ◌<◌, ◌^◌, ap, length, arith}
+use Rattle.std.proofs.Common.{◌<◌, ◌^◌, ap, length, arith}
 use Rattle.pla_plan.proofs.PlaneNets.{terms_near}
 use Rattle.pla_plan.proofs.plane_rows.add_sum.Goals as goal
 
@@ -7,9 +7,6 @@ overflow_cast-gnd c = omega (arith, ap length c.terms.ensures.gates, c.terms.ens
 
 pub overflow_add-gnd : goal.overflow_add-gnd
 overflow_add-gnd c = omega (arith, ap length c.terms.ensures.gates, c.terms.ensures.array.rows_fit, c.terms.ensures.array.few_rows)
-
-pub overflow_add-gnd-2 : goal.overflow_add-gnd-2
-overflow_add-gnd-2 c = omega (arith, ap length c.terms.ensures.gates, c.terms.ensures.array.rows_fit, c.terms.ensures.array.few_rows)
 
 pub plane_nets-requires : goal.plane_nets-requires
 plane_nets-requires c =

@@ -1,8 +1,8 @@
--- The rows of the terms so far.
-use Rattle.std.proofs.Common.{◌≡◌, ◌+◌, ◌++◌, take}
-use Rattle.std.specs.Prelude.{flat_map}
-use Rattle.pla_plan.specs.Planes.{open_gate_rows}
+-- The rows of the terms so far, and of those behind them.
+use Rattle.std.proofs.Common.{◌≡◌, ◌+◌, ◌++◌, drop}
+use Rattle.pla_plan.specs.Planes.{rows_of_terms}
 use Rattle.pla_plan.proofs.plane_rows.add_terms.Given as goal
 
-abbrev pub invariant-loop-term : goal.invariant-loop-term
-invariant-loop-term l = l.rows.items ≡ l.fn.rows.items ++ flat_map (λ term. open_gate_rows l.gnd (l.gnd + 1) term.inputs) (take l.term-index l.terms)
+abbrev pub invariant-loop-number : goal.invariant-loop-number
+invariant-loop-number l =
+    l.rows.items ++ rows_of_terms l.gnd (l.gnd + 1 + l.number) (drop l.number l.terms) ≡ l.fn.rows.items ++ rows_of_terms l.gnd (l.gnd + 1) l.terms

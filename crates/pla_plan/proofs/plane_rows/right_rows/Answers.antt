@@ -1,4 +1,4 @@
-use Rattle.std.proofs.Common.{◌≡◌, length, sym, subst}
+use Rattle.std.proofs.Common.{sym, subst}
 use Rattle.std.proofs.lemmas.List.Elements.{All-get_or, All-same}
 use Rattle.pla_plan.specs.Fits.{IsPlaneGate}
 use Rattle.pla_plan.proofs.plane_rows.right_rows.Goals as goal
