@@ -3,3 +3,9 @@ pub mod Heights
 pub mod Wires
 pub mod MatrixTiles
 pub mod PlaneTiles
+pub mod PlaneChains
+pub mod PlanePorts
+pub mod PlaneColumns
+pub mod OnwardRows
+pub mod PlanesPlans
+pub mod DrawnPlanes

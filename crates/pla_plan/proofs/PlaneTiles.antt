@@ -8,11 +8,11 @@ use Rattle.gate_matrix.specs.Cells.{matrix_tile}
 use Rattle.pla_plan.specs.Planes.{PlaneTables, plane_rows, right_from, right_end, left_plane, right_plane, lower_matrix, cap, plane_tile, planes_tile}
 
 -- a choice whose test is known
-first_of : {X : Type 0} (t : Bool) (a b : X) → t ≡ true → (if t then a else b) ≡ a
+pub first_of : {X : Type 0} (t : Bool) (a b : X) → t ≡ true → (if t then a else b) ≡ a
 first_of true a b e = refl
 first_of false a b e = absurd (cc)
 
-second_of : {X : Type 0} (t : Bool) (a b : X) → t ≡ false → (if t then a else b) ≡ b
+pub second_of : {X : Type 0} (t : Bool) (a b : X) → t ≡ false → (if t then a else b) ≡ b
 second_of false a b e = refl
 second_of true a b e = absurd (cc)
 

@@ -11,10 +11,10 @@ left_from k (suc n) first cols low high = (low, left_from (k + 1) n (2 + 2 * k +
 pub left_wires : (nets cols : ℕ) → 2 + 2 * nets ≤ cols → AreWires (left_places nets) cols
 left_wires nets cols room = left_from 0 nets 2 cols (omega arith) (omega arith)
 
-right_from : (k n last first cols : ℕ) → k + n ≡ last → first ≤ 4 + 5 * k → 6 + 5 * last ≤ cols
+pub right_from_wires : (k n last first cols : ℕ) → k + n ≡ last → first ≤ 4 + 5 * k → 6 + 5 * last ≤ cols
     → AreWiresFrom first (map (λ term. 6 + 5 * term) (range_with_len k n) ++ (4 + 5 * last) ∷ []) cols
-right_from k zero last first cols e low high = (omega arith, omega arith)
-right_from k (suc n) last first cols e low high = (omega arith, right_from (k + 1) n last (6 + 5 * k + 2) cols (omega arith) (omega arith) high)
+right_from_wires k zero last first cols e low high = (omega arith, omega arith)
+right_from_wires k (suc n) last first cols e low high = (omega arith, right_from_wires (k + 1) n last (6 + 5 * k + 2) cols (omega arith) (omega arith) high)
 
 pub right_wires : (terms cols : ℕ) → 6 + 5 * terms ≤ cols → AreWires (right_places terms) cols
-right_wires terms cols room = (omega arith, right_from 0 terms terms 4 cols (omega arith) (omega arith) room)
+right_wires terms cols room = (omega arith, right_from_wires 0 terms terms 4 cols (omega arith) (omega arith) room)

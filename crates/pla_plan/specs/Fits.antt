@@ -1,8 +1,9 @@
 -- When terms, sums and a part make an array.
 use Rattle.std.specs.Prelude.{◌≡◌, ◌≢◌, ℕ, ◌+◌, ◌-◌, ◌*◌, ◌^◌, ◌<◌, ◌≤◌, length, get_or, [], All, AllPairs}
+use Rattle.stick_grid.specs.Plans.{IsPlan}
 use Rattle.nor_net.specs.Netlist.{NorGate}
 use Rattle.gate_matrix.specs.Drawn.{FitsPart}
-use Rattle.pla_plan.specs.Planes.{PlaneTables, plane_rows, right_from, right_end}
+use Rattle.pla_plan.specs.Planes.{PlaneTables, plane_rows, right_from, right_end, planes_plan}
 
 -- The gate's inputs, which differ, are nets from the first of these on, up to and not with the second.
 pub record IsPlaneGate (from to : ℕ) (gate : NorGate) : Type 0 where
@@ -32,3 +33,7 @@ pub record IsArray (planes : PlaneTables) : Type 0 where
   pub sums : All (IsPlaneGate planes.part.nets (planes.part.nets + length planes.terms)) planes.sums
   pub sum_nets : All (λ sum. sum.out < planes.part.nets) planes.sums
   pub sum_columns : (s : ℕ) → s < length planes.sums → get_or planes.at (get_or planes.sums s no_gate).out 0 ≡ right_from planes + 8 * s + 2
+
+-- The tiles of an array are a plan: neighbours meet, also at the seams of its parts.
+abbrev pub PlanesArePlans : Type 0
+PlanesArePlans = (planes : PlaneTables) → IsArray planes → IsPlan (planes_plan planes)

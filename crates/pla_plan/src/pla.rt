@@ -1,8 +1,12 @@
 // The tiles of an array.
 
-ghost use Rattle.std.specs.Prelude.{◌≡◌, ◌<◌, map, IfOk};
-ghost use Rattle.pla_plan.specs.Planes.{plane_rows, plane_tile, planes_tile};
+ghost use Rattle.std.specs.Prelude.{◌≡◌, ◌<◌, ◌++◌, map, IfOk, OnOk};
+ghost use Rattle.std.specs.List.{range_with_len};
+ghost use Rattle.stick_grid.specs.Windows.{tiling_of};
+ghost use Rattle.pla_plan.specs.Planes.{plane_rows, plane_tile, planes_tile, planes_plan};
+ghost use Rattle.pla_plan.specs.Fits.{IsArray};
 
+use crate::laws::planes_are_plans;
 use crate::matrix::Matrix;
 use crate::plane_parts::{caps, left_matrix, lower_matrix, right_matrix};
 use crate::planes::Planes;
@@ -11,6 +15,8 @@ use micro_tiles::{Basic, Tile, transposed};
 use rx_text::NoMemory;
 use std::alloc::Global;
 use std::marker::Model;
+use stick_grid::Grid;
+use stick_grid::laws::same_tiles_agree;
 
 /// A programmable logic array as rows and columns of tiles, each of which is told by its row and column: the two planes, the row
 /// between them and the part, and the part.
@@ -58,14 +64,16 @@ impl Pla {
 
     /// How many rows of tiles it has.
     pub fn rows(&self) -> u32
-        ensures { result ≡ self.now.rows }
+        ensures number { result ≡ self.now.rows }
+        ensures array { IsArray self.now }
     {
         self.planes.rows()
     }
 
     /// How many columns of tiles it has.
     pub fn cols(&self) -> u32
-        ensures { result ≡ self.now.cols }
+        ensures number { result ≡ self.now.cols }
+        ensures array { IsArray self.now }
     {
         self.planes.cols()
     }
@@ -102,5 +110,33 @@ impl Pla {
         } else {
             Basic::Empty.tile()
         }
+    }
+
+    /// Its tiles as a grid.
+    ///
+    /// # Errors
+    ///
+    /// `NoMemory` where an allocation was refused.
+    pub fn grid(&self, alloc: Global) -> Result<Grid, NoMemory>
+        ensures { IfOk result (λ grid. grid ≡ tiling_of (planes_plan self.now)) }
+    {
+        same_tiles_agree();
+        planes_are_plans();
+        let mut tiles = Vec::new(alloc);
+        for row in 0..self.rows() {
+            self.add_row(row, &mut tiles)?;
+        }
+        Ok(Grid::new(alloc, self.rows(), self.cols(), tiles)?)
+    }
+
+    /// Adds the tiles of a row.
+    fn add_row(&self, row: u32, tiles: &mut Vec<Tile>) -> Result<(), NoMemory>
+        requires { row < self.now.rows }
+        ensures { OnOk result (tiles.new.items ≡ tiles.old.items ++ map (planes_tile self.now row) (range_with_len 0 self.now.cols)) }
+    {
+        for col in 0..self.cols() {
+            tiles.push(self.tile_at(row, col))?;
+        }
+        Ok(())
     }
 }
