@@ -9,3 +9,6 @@ pub mod PlaneColumns
 pub mod OnwardRows
 pub mod PlanesPlans
 pub mod DrawnPlanes
+pub mod RowNets
+pub mod PlaneMatrices
+pub mod PlaneDevices

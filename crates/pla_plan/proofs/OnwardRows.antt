@@ -88,7 +88,7 @@ sums_end planes out (sum ∷ sums) =
 abbrev places_from : ℕ → ℕ → ℕ → List ℕ
 places_from k n last = map (λ term. 6 + 5 * term) (range_with_len k n) ++ (4 + 5 * last) ∷ []
 
-abbrev ground_rows : ℕ → List MatrixRow
+abbrev pub ground_rows : ℕ → List MatrixRow
 ground_rows gnd = onward_row Top gnd [] ∷ blank_row ∷ blank_row ∷ []
 
 terms_meet : (gnd out : ℕ) (terms : List NorGate) (k net last i r : ℕ) → k + length terms ≡ last → r ≡ 4 + 5 * k + i → i < 5 * length terms + 3

@@ -2,6 +2,7 @@
 use Rattle.std.specs.Prelude.{◌≡◌, ◌≢◌, ℕ, ◌+◌, ◌-◌, ◌*◌, ◌^◌, ◌<◌, ◌≤◌, length, get_or, [], All, AllPairs}
 use Rattle.stick_grid.specs.Plans.{IsPlan}
 use Rattle.nor_net.specs.Netlist.{NorGate}
+use Rattle.nor_net.specs.Part.{IsPart}
 use Rattle.gate_matrix.specs.Drawn.{FitsPart}
 use Rattle.pla_plan.specs.Planes.{PlaneTables, plane_rows, right_from, right_end, planes_plan}
 
@@ -14,13 +15,14 @@ pub record IsPlaneGate (from to : ℕ) (gate : NorGate) : Type 0 where
 abbrev pub no_gate : NorGate
 no_gate = record { out = 0; inputs = [] }
 
--- The part fits below the planes, the left nets have every second column, and the output of each sum has the third of its eight
+-- The part fits below the planes, with a column at least behind them. The left nets have every second column, and the output of each sum has the third of its eight
 -- columns. There are at most 2^20 rows and columns.
 pub record IsArray (planes : PlaneTables) : Type 0 where
   pub few_rows : planes.rows ≤ 2 ^ 20
   pub few_cols : planes.cols ≤ 2 ^ 20
   pub rows_fit : plane_rows planes + 1 ≤ planes.rows
-  pub cols_fit : right_end planes ≤ planes.cols
+  pub cols_fit : right_end planes + 1 ≤ planes.cols
+  pub part : IsPart planes.part
   pub part_fits : FitsPart planes.part planes.at (planes.rows - (plane_rows planes + 1)) planes.cols
   pub high_supply : planes.part.vdd ≡ 0
   pub ground : planes.part.gnd ≡ planes.left + 1
