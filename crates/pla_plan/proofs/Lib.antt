@@ -12,3 +12,5 @@ pub mod DrawnPlanes
 pub mod RowNets
 pub mod PlaneMatrices
 pub mod PlaneDevices
+pub mod PlaneParts
+pub mod PlaneSeams

@@ -85,7 +85,7 @@ sums_end planes out (sum ∷ sums) =
 
 -- ---- where the rows of the left plane meet nets of the right one
 
-abbrev places_from : ℕ → ℕ → ℕ → List ℕ
+abbrev pub places_from : ℕ → ℕ → ℕ → List ℕ
 places_from k n last = map (λ term. 6 + 5 * term) (range_with_len k n) ++ (4 + 5 * last) ∷ []
 
 abbrev pub ground_rows : ℕ → List MatrixRow
