@@ -233,12 +233,3 @@ module _ (part : PartTables) where
 
     pub rows_lead_on : (i : ℕ) → i + 1 < length drawn_rows → LeadsOn (get_or drawn_rows i blank_row) (get_or drawn_rows (i + 1) blank_row)
     rows_lead_on i below = (rows_stacked i (omega arith)).leads
-
-    -- below a row that is blank
-    pub below_leads_on : (i : ℕ) → i < length drawn_rows
-        → LeadsOn (get_or (blank_row ∷ drawn_rows) i blank_row) (get_or (blank_row ∷ drawn_rows) (i + 1) blank_row)
-    below_leads_on zero below = first_stacked.leads
-    below_leads_on (suc i) below =
-        let e : suc (i + 1) ≡ suc i + 1 = omega arith in
-        subst (λ (k : ℕ). LeadsOn (get_or (blank_row ∷ drawn_rows) (suc i) blank_row) (get_or (blank_row ∷ drawn_rows) k blank_row)) e
-        (rows_lead_on i (omega arith))

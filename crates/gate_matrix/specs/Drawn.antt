@@ -1,11 +1,10 @@
 -- A part drawn as a gate matrix.
-use Rattle.std.specs.Prelude.{◌≡◌, ℕ, ◌-◌, ◌≤◌, List, ◌∷◌, ◌++◌, length, replicate}
+use Rattle.std.specs.Prelude.{◌≡◌, ℕ, ◌-◌, ◌≤◌, List, ◌++◌, length, replicate}
 use Rattle.stick_grid.specs.Plans.{Plan}
 use Rattle.nor_net.specs.Part.{PartTables}
 use Rattle.gate_matrix.specs.Rows.{blank_row}
 use Rattle.gate_matrix.specs.Columns.{AreWires}
 use Rattle.gate_matrix.specs.Cells.{Matrix, matrix_plan}
-use Rattle.gate_matrix.specs.Matrices.{IsMatrix}
 use Rattle.gate_matrix.specs.PartRows.{rows_of_part, height_of_part}
 
 -- the matrix of the part in so many rows, of which those to spare stand north
@@ -22,15 +21,6 @@ pub record FitsPart (part : PartTables) (at : List ℕ) (rows cols : ℕ) : Type
   pub wires : length at ≡ part.nets
   pub columns : AreWires at cols
 
--- the matrix with a row above that only carries the poly of the nets on
-abbrev pub below_blank : Matrix → Matrix
-below_blank matrix = record { rows = blank_row ∷ matrix.rows; at = matrix.at; cols = matrix.cols }
-
--- A part has as many rows as it is drawn in; they make a matrix, also below a row that only carries the poly of the nets on.
-pub record IsPartMatrix (part : PartTables) (at : List ℕ) (rows cols : ℕ) : Type 0 where
-  pub height : length (part_matrix part at rows cols).rows ≡ rows
-  pub alone : IsMatrix (part_matrix part at rows cols)
-  pub below : IsMatrix (below_blank (part_matrix part at rows cols))
-
-abbrev pub PartsAreMatrices : Type 0
-PartsAreMatrices = (part : PartTables) (at : List ℕ) (rows cols : ℕ) → FitsPart part at rows cols → IsPartMatrix part at rows cols
+-- A part has as many rows as it is drawn in.
+abbrev pub PartsFillRows : Type 0
+PartsFillRows = (part : PartTables) (at : List ℕ) (rows cols : ℕ) → FitsPart part at rows cols → length (part_matrix part at rows cols).rows ≡ rows

@@ -1,7 +1,7 @@
 //! What gate matrices are. Each law is the contract of a function that runs nothing.
 
 ghost use Rattle.gate_matrix.specs.Columns.{ColumnsAreOfNets};
-ghost use Rattle.gate_matrix.specs.Drawn.{PartsAreMatrices};
+ghost use Rattle.gate_matrix.specs.Drawn.{PartsFillRows};
 ghost use Rattle.gate_matrix.specs.Matrices.{MatricesArePlans};
 ghost use Rattle.gate_matrix.specs.MatrixNets.{MatricesAreModules};
 ghost use Rattle.gate_matrix.specs.Modules.{PartsAreModules};
@@ -30,9 +30,9 @@ pub fn columns_are_of_nets()
     ensures { ColumnsAreOfNets }
 {}
 
-/// The rows of a part make a matrix.
-pub fn parts_are_matrices()
-    ensures { PartsAreMatrices }
+/// A part that fits has as many rows as it is drawn in.
+pub fn parts_fill_rows()
+    ensures { PartsFillRows }
 {}
 
 /// The tiles of a part make its network: each of their nets is a net of the part, joined with all that has its name, the devices

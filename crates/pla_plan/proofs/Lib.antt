@@ -4,13 +4,13 @@ pub mod Wires
 pub mod MatrixTiles
 pub mod PlaneTiles
 pub mod PlaneChains
-pub mod PlanePorts
 pub mod PlaneColumns
 pub mod OnwardRows
-pub mod PlanesPlans
 pub mod DrawnPlanes
 pub mod RowNets
 pub mod PlaneMatrices
 pub mod PlaneDevices
 pub mod PlaneParts
 pub mod PlaneSeams
+pub mod PlaneHomes
+pub mod PlanesModules

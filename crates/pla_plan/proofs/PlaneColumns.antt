@@ -1,6 +1,6 @@
 -- The columns of the planes and of the row below them.
-use Rattle.std.proofs.Common.{◌≡◌, ℕ, zero, suc, ◌+◌, ◌-◌, ◌*◌, ◌/◌, ◌%◌, ◌<◌, ◌≤◌, ◌==◌, ◌&&◌, ◌||◌, nat_lt, Bool, true, false, inl, inr, List, [], ◌∷◌, length, get_or, refl, sym, ap, ◌∙◌, arith}
-use Rattle.std.proofs.lemmas.Bool.{cases_lt, eqb-true, lt-ltb, le-ltb, eq-eqb, ne_eqb}
+use Rattle.std.proofs.Common.{◌≡◌, ℕ, zero, suc, ◌+◌, ◌-◌, ◌*◌, ◌%◌, ◌<◌, ◌≤◌, ◌==◌, ◌&&◌, ◌||◌, nat_lt, Bool, true, false, inl, inr, List, [], ◌∷◌, length, get_or, refl, sym, ap, ◌∙◌, arith}
+use Rattle.std.proofs.lemmas.Bool.{cases_lt, lt-ltb, le-ltb, eq-eqb, ne_eqb}
 use Rattle.std.proofs.lemmas.List.Elements.{All-get_or}
 use Rattle.std.proofs.lemmas.List.FromFn.{length-map-range_with_len, get_or-map-range_with_len}
 use Rattle.gate_matrix.specs.declared.column.Column.{Column}
@@ -9,7 +9,6 @@ use Rattle.gate_matrix.specs.Columns.{wire_column, column_of, AreWiresFrom, AreW
 use Rattle.pla_plan.specs.Planes.{PlaneTables, left_places, right_from, right_end, is_sum_column}
 use Rattle.pla_plan.specs.Fits.{IsArray, no_gate}
 use Rattle.pla_plan.proofs.PlaneTiles.{first_of, second_of}
-use Rattle.pla_plan.proofs.PlanePorts.{is_wire}
 use Rattle.pla_plan.proofs.Wires.{left_wires}
 
 -- ---- a column by the first net
@@ -48,6 +47,10 @@ column_behind at (suc zero) w = let low = room at 2 1 w in absurd (omega arith)
 column_behind at (suc (suc col)) w = free_behind at 2 0 (suc (suc col)) w
 
 -- ---- whose poly a column has
+
+abbrev pub is_wire : Column → Bool
+is_wire (Wire net) = true
+is_wire _ = false
 
 -- The column has the poly of this net.
 pub record IsWireOf (k : Column) : Type 0 where
@@ -133,15 +136,6 @@ module _ (planes : PlaneTables) (array : IsArray planes) (law : ColumnsAreOfNets
       let below = sum_below s h in
       let long = array.part_fits.wires in
       ap (column_of planes.at) (sym (array.sum_columns s h)) ∙ of_part.wire (sum_net s) (omega arith)
-
-  pub fed_wire : (col : ℕ) → right_from planes ≤ col → col < right_end planes → ((col - right_from planes) % 8 == 2) ≡ true
-      → is_wire (column_of planes.at col) ≡ true
-  fed_wire col low high e =
-      let s = (col - right_from planes) / 8 in
-      let h : (col - right_from planes) % 8 ≡ 2 = eqb-true ((col - right_from planes) % 8) 2 e in
-      let place : right_from planes + 8 * s + 2 ≡ col = omega arith in
-      let few : s < length planes.sums = omega arith in
-      ap is_wire (ap (column_of planes.at) (sym place) ∙ sum_wire s few)
 
 -- ---- which columns are fed from above
 

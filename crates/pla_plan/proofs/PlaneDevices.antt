@@ -1,5 +1,5 @@
 -- The devices of the planes are those of terms and sums with their loads.
-use Rattle.std.proofs.Common.{◌≡◌, ℕ, zero, suc, ◌+◌, ◌-◌, ◌<◌, ◌≤◌, ◌==◌, if◌then◌else◌, Bool, true, false, List, [], ◌∷◌, ◌++◌, length, get_or, map, All, refl, sym, ap, ◌∙◌, append_assoc, arith}
+use Rattle.std.proofs.Common.{◌≡◌, ℕ, suc, ◌+◌, ◌-◌, ◌<◌, ◌==◌, if◌then◌else◌, Bool, true, false, List, [], ◌∷◌, ◌++◌, length, get_or, map, All, refl, ap, ◌∙◌, arith}
 use Rattle.std.specs.Prelude.{flat_map}
 use Rattle.std.specs.List.{range_with_len}
 use Rattle.std.proofs.lemmas.List.{map-append}
@@ -8,12 +8,12 @@ use Rattle.switch_net.specs.Circuit.{renamed_device}
 use Rattle.switch_net.specs.declared.network.Device.{Device}
 use Rattle.switch_net.specs.declared.network.Device.TheVariants as devices
 use Rattle.nor_net.specs.Netlist.{NorGate}
-use Rattle.nor_net.specs.SwitchForm.{at, pull_downs}
-use Rattle.gate_matrix.specs.declared.row.RowKind.TheVariants.{Start, Stop, Through, Top}
+use Rattle.nor_net.specs.SwitchForm.{at}
+use Rattle.gate_matrix.specs.declared.row.RowKind.TheVariants.{Stop, Through}
 use Rattle.gate_matrix.specs.Rows.{MatrixRow, blank_row, closed_row}
 use Rattle.gate_matrix.specs.Cells.{Matrix}
 use Rattle.gate_matrix.specs.MatrixNets.{row_at, passes_of, row_devices, devices_at, matrix_devices}
-use Rattle.pla_plan.specs.Planes.{PlaneTables, onward_row, open_gate_rows, rows_of_terms, left_rows, left_plane, rows_of_sum, rows_of_sums, right_plane}
+use Rattle.pla_plan.specs.Planes.{PlaneTables, rows_of_terms, left_plane, rows_of_sums, right_plane}
 use Rattle.pla_plan.specs.Fits.{no_gate}
 use Rattle.pla_plan.specs.PlaneModules.{loaded_gate}
 use Rattle.pla_plan.proofs.OnwardRows.{ground_rows}

@@ -1,5 +1,5 @@
 -- The planes are matrices whose rows have their nets.
-use Rattle.std.proofs.Common.{◌≡◌, ℕ, suc, ◌+◌, ◌-◌, ◌*◌, ◌<◌, ◌≤◌, ◌⊎◌, inl, inr, true, List, [], ◌∷◌, ◌++◌, length, get_or, map, refl, sym, ap, subst, ◌∙◌, add-one, arith}
+use Rattle.std.proofs.Common.{◌≡◌, ℕ, suc, ◌+◌, ◌-◌, ◌*◌, ◌<◌, ◌≤◌, ◌⊎◌, inl, inr, true, List, [], ◌∷◌, length, get_or, map, refl, sym, ap, subst, ◌∙◌, add-one, arith}
 use Rattle.std.specs.List.{range_with_len}
 use Rattle.std.proofs.lemmas.Bool.{cases_lt}
 use Rattle.std.proofs.lemmas.List.{length-append, get_or_past}
@@ -9,8 +9,8 @@ use Rattle.gate_matrix.specs.Rows.{MatrixRow, blank_row, closed_row, has_metal}
 use Rattle.gate_matrix.specs.Columns.{column_of}
 use Rattle.gate_matrix.specs.Cells.{Matrix}
 use Rattle.gate_matrix.specs.MatrixNets.{row_at, IsAbove, IsWireMetal, IsOpenMetal, AreGates, AreMatrixNets}
-use Rattle.pla_plan.specs.Planes.{PlaneTables, right_from, right_end, plane_rows, left_places, right_places, left_plane, right_plane, onward_row}
-use Rattle.pla_plan.specs.Fits.{IsArray, no_gate}
+use Rattle.pla_plan.specs.Planes.{PlaneTables, right_from, plane_rows, left_places, right_places, left_plane, right_plane}
+use Rattle.pla_plan.specs.Fits.{IsArray}
 use Rattle.pla_plan.proofs.Heights.{long_left, long_sums}
 use Rattle.pla_plan.proofs.Wires.{left_wires, right_wires}
 use Rattle.pla_plan.proofs.PlaneChains.{Chain, chained, Stacked, blank_ends, left_behind, begun_chain, sums_chain}

@@ -1,11 +1,10 @@
 -- The parts of an array as modules in their places.
-use Rattle.std.proofs.Common.{◌≡◌, ℕ, zero, suc, ◌+◌, ◌-◌, ◌*◌, ◌<◌, ◌≤◌, ◌==◌, ◌&&◌, ◌||◌, nat_lt, Bool, true, false, inl, inr, if◌then◌else◌, List, [], length, get_or, refl, sym, ap, subst, ◌∙◌, arith}
+use Rattle.std.proofs.Common.{◌≡◌, ℕ, zero, suc, ◌+◌, ◌-◌, ◌<◌, ◌≤◌, ◌==◌, ◌&&◌, ◌||◌, nat_lt, Bool, true, false, inl, inr, if◌then◌else◌, [], length, get_or, refl, sym, ap, subst, ◌∙◌, arith}
 use Rattle.std.proofs.lemmas.Bool.{cases_lt, cases_eq, lt-ltb, le-ltb, eq-eqb, ne_eqb}
 use Rattle.micro_tiles.specs.declared.basic.Basic.TheVariants as tiles
 use Rattle.micro_tiles.specs.Basics.{number_named}
 use Rattle.micro_tiles.specs.Table.{transpose_of}
 use Rattle.stick_grid.specs.Plans.{Plan}
-use Rattle.stick_grid.specs.Pieces.{Piece}
 use Rattle.stick_grid.specs.Mirrors.{mirrored_plan, mirrored_piece, mirrored_border, MirrorsAreModules}
 use Rattle.stick_grid.specs.PlacedModules.{PlacedModule, IsPlaced, Holds}
 use Rattle.stick_grid.specs.PlainModules.{no_border, poly_tile, IsPolyRow, poly_border, EmptyPlansAreModules, PolyRowsAreModules}
@@ -15,15 +14,14 @@ use Rattle.gate_matrix.specs.declared.column.Column.TheVariants.{Load, Gate, Wir
 use Rattle.gate_matrix.specs.Rows.{blank_row}
 use Rattle.gate_matrix.specs.Columns.{column_of, ColumnsAreOfNets}
 use Rattle.gate_matrix.specs.Cells.{matrix_plan, matrix_tile}
-use Rattle.gate_matrix.specs.Drawn.{PartsAreMatrices}
+use Rattle.gate_matrix.specs.Drawn.{PartsFillRows}
 use Rattle.gate_matrix.specs.MatrixNets.{matrix_name, matrix_devices, matrix_border, MatricesAreModules}
 use Rattle.gate_matrix.specs.Modules.{part_name, part_border, PartsAreModules}
 use Rattle.pla_plan.specs.Planes.{PlaneTables, right_from, right_end, plane_rows, left_plane, right_plane, lower_matrix, is_sum_column, cap_in, cap, planes_tile, planes_plan}
 use Rattle.pla_plan.specs.Fits.{IsArray, no_gate}
 use Rattle.pla_plan.proofs.Heights.{long_left}
 use Rattle.pla_plan.proofs.PlaneTiles.{first_of, second_of, in_planes, between, in_part, in_left, in_right, in_rest}
-use Rattle.pla_plan.proofs.PlanePorts.{is_wire}
-use Rattle.pla_plan.proofs.PlaneColumns.{IsWireOf, wire_of, of_part, sum_below}
+use Rattle.pla_plan.proofs.PlaneColumns.{is_wire, wire_of, of_part, sum_below}
 use Rattle.pla_plan.proofs.PlaneMatrices.{left_metal, left_count, left_are, right_metal, right_count, right_are, right_height}
 
 -- the net of the poly in the column
@@ -54,9 +52,6 @@ module _ (planes : PlaneTables) where
   left_term n k e =
       second_of (nat_lt n (planes.left + 2)) _ _ (le-ltb n (planes.left + 2) (omega arith))
       ∙ (let same : planes.part.nets + (n - (planes.left + 2)) ≡ planes.part.nets + k = omega arith in same)
-
-  pub right_supply : right_net 0 ≡ 0
-  right_supply = refl
 
   pub right_term : (n k : ℕ) → n ≡ k + 1 → k < length planes.terms → right_net n ≡ planes.part.nets + k
   right_term n k e h =
@@ -210,9 +205,9 @@ either_poly true true e = refl
 either_poly true false e = refl
 either_poly false t e = absurd (cc)
 
-module _ (planes : PlaneTables) (array : IsArray planes) (parts : PartsAreMatrices) where
-  low_height : length (lower_matrix planes).rows ≡ low_rows planes
-  low_height = (parts planes.part planes.at (low_rows planes) planes.cols array.part_fits).height
+module _ (planes : PlaneTables) (array : IsArray planes) (parts : PartsFillRows) where
+  pub low_height : length (lower_matrix planes).rows ≡ low_rows planes
+  low_height = parts planes.part planes.at (low_rows planes) planes.cols array.part_fits
 
   -- ---- the places that they hold
 
@@ -284,7 +279,7 @@ module _ (planes : PlaneTables) (array : IsArray planes) (parts : PartsAreMatric
   once (suc (suc (suc (suc zero)))) row col few h = let from_row = h.from_row in which_low planes row col (omega arith)
   once (suc (suc (suc (suc (suc k))))) row col few h = absurd (omega arith)
 
-module _ (planes : PlaneTables) (array : IsArray planes) (columns : ColumnsAreOfNets) (parts : PartsAreMatrices) (matrix_modules : MatricesAreModules)
+module _ (planes : PlaneTables) (array : IsArray planes) (columns : ColumnsAreOfNets) (parts : PartsFillRows) (matrix_modules : MatricesAreModules)
     (mirror : MirrorsAreModules) (empties : EmptyPlansAreModules) (polys : PolyRowsAreModules) (part_modules : PartsAreModules) where
   caps_are : IsPolyRow (caps_plan planes) planes.part.nets (cap_north planes) (cap_south planes) (cap_net planes)
   caps_are = record {

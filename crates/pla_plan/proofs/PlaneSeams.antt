@@ -1,30 +1,29 @@
 -- At the seams of an array the same nets lead out of both parts.
 use Rattle.std.proofs.Common.{◌≡◌, ℕ, zero, suc, ◌+◌, ◌-◌, ◌*◌, ◌/◌, ◌%◌, ◌<◌, ◌≤◌, ◌==◌, ◌&&◌, Bool, true, false, inl, inr, if◌then◌else◌, List, [], ◌∷◌, ◌++◌, length, get_or, Option, Some, None, refl, sym, ap, subst, ◌∙◌, arith}
 use Rattle.std.specs.Prelude.{option_map}
-use Rattle.std.proofs.lemmas.Bool.{cases_lt, cases_eq, cases_Bool, eqb-true}
+use Rattle.std.proofs.lemmas.Bool.{cases_lt, cases_eq, eqb-true}
 use Rattle.geom.specs.declared.layer.Layer.{Layer}
 use Rattle.geom.specs.declared.layer.Layer.TheVariants.{Diffusion, Poly, Metal, Cut, Implant}
 use Rattle.micro_tiles.specs.declared.side.Side.TheVariants.{North, East, South, West}
-use Rattle.stick_grid.specs.PlacedModules.{PlacedModule, Holds, StandBeside, StandAbove, border_in}
+use Rattle.stick_grid.specs.PlacedModules.{StandBeside, StandAbove, border_in}
 use Rattle.nor_net.specs.Netlist.{NorGate}
 use Rattle.gate_matrix.specs.declared.column.Column.{Column}
 use Rattle.gate_matrix.specs.declared.column.Column.TheVariants.{Load, Gate, Wire, Device, Free}
 use Rattle.gate_matrix.specs.Rows.{MatrixRow, blank_row, has_metal}
 use Rattle.gate_matrix.specs.Columns.{wire_column, column_of, ColumnsAreOfNets}
 use Rattle.gate_matrix.specs.Matrices.{is_start, is_stop}
-use Rattle.gate_matrix.specs.MatrixNets.{row_at, wire_in, AreMatrixNets}
-use Rattle.gate_matrix.specs.Drawn.{PartsAreMatrices}
-use Rattle.pla_plan.specs.Planes.{PlaneTables, right_from, right_end, plane_rows, left_plane, right_plane, left_rows, left_places, right_places, rows_of_terms, rows_of_sums, is_sum_column}
+use Rattle.gate_matrix.specs.MatrixNets.{row_at, wire_in}
+use Rattle.gate_matrix.specs.Drawn.{PartsFillRows}
+use Rattle.pla_plan.specs.Planes.{PlaneTables, right_from, right_end, plane_rows, left_plane, right_plane, left_rows, left_places, right_places, rows_of_terms}
 use Rattle.pla_plan.specs.Fits.{IsArray}
 use Rattle.pla_plan.proofs.Heights.{long_left}
 use Rattle.pla_plan.proofs.PlaneChains.{chained, blank_ends, sums_chain}
-use Rattle.pla_plan.proofs.PlanePorts.{is_wire}
-use Rattle.pla_plan.proofs.PlaneColumns.{beyond, wire_here, device_here, free_before, IsWireOf, wire_of, of_left, left_long, left_place, left_wire_below, same_wires, sum_wire, fed_left, fed_right, fed_rest}
+use Rattle.pla_plan.proofs.PlaneColumns.{is_wire, beyond, wire_here, device_here, free_before, wire_of, of_left, left_long, left_place, left_wire_below, same_wires, sum_wire, fed_left, fed_right, fed_rest}
 use Rattle.pla_plan.proofs.OnwardRows.{places_from, ground_rows, sums_go_on, last_stops, left_last}
 use Rattle.pla_plan.proofs.Wires.{right_from_wires}
 use Rattle.pla_plan.proofs.RowNets.{right_open}
 use Rattle.pla_plan.proofs.PlaneMatrices.{right_height}
-use Rattle.pla_plan.proofs.PlaneParts.{net_in, left_net, left_low, left_term, sum_net, right_net, right_term, right_ground, right_sum, fed, cap_south, cap_north, cap_net, modules, which, which_left, which_right, which_rest, which_caps, which_low, once}
+use Rattle.pla_plan.proofs.PlaneParts.{net_in, left_net, left_low, left_term, sum_net, right_net, right_term, right_ground, right_sum, fed, cap_north, cap_net, modules, which, which_left, which_right, which_rest, which_caps, which_low, once}
 
 -- ---- the left plane and the right one
 
@@ -131,7 +130,7 @@ not_onward f true false net e = refl
 not_onward f false false net e = refl
 not_onward f m true net e = absurd (cc)
 
-module _ (planes : PlaneTables) (array : IsArray planes) (columns : ColumnsAreOfNets) (parts : PartsAreMatrices) where
+module _ (planes : PlaneTables) (array : IsArray planes) (columns : ColumnsAreOfNets) (parts : PartsFillRows) where
   abbrev height : ℕ
   height = plane_rows planes
 

@@ -1,15 +1,14 @@
 -- The nets of the metal of the planes' rows.
-use Rattle.std.proofs.Common.{◌≡◌, ◌≢◌, ℕ, zero, suc, ◌+◌, ◌-◌, ◌*◌, ◌<◌, ◌≤◌, ◌==◌, ◌⊎◌, inl, inr, Bool, true, false, if◌then◌else◌, List, [], ◌∷◌, ◌++◌, length, get_or, map, All, refl, sym, ap, subst, ◌∙◌, add-one, arith}
-use Rattle.std.specs.Prelude.{AllPairs}
+use Rattle.std.proofs.Common.{◌≡◌, ℕ, zero, suc, ◌+◌, ◌-◌, ◌*◌, ◌<◌, ◌≤◌, ◌==◌, ◌⊎◌, inl, inr, Bool, true, false, if◌then◌else◌, List, [], ◌∷◌, ◌++◌, length, get_or, map, All, refl, ap, subst, ◌∙◌, arith}
 use Rattle.std.proofs.lemmas.List.{get_or_default, length-map}
-use Rattle.std.proofs.lemmas.List.Elements.{All-nil, All-head, All-tail, All-get_or}
+use Rattle.std.proofs.lemmas.List.Elements.{All-nil, All-head, All-tail}
 use Rattle.std.proofs.Math.ListN.{get_or-map}
 use Rattle.nor_net.specs.Netlist.{NorGate}
 use Rattle.gate_matrix.specs.declared.row.RowKind.{RowKind}
 use Rattle.gate_matrix.specs.declared.row.RowKind.TheVariants.{Start, Through, Stop, Vdd, Load, Out, Top, Middle, Bottom}
 use Rattle.gate_matrix.specs.Rows.{MatrixRow, blank_row, closed_row, has_metal}
 use Rattle.gate_matrix.specs.MatrixNets.{IsWireMetal, IsOpenMetal, AreGates}
-use Rattle.pla_plan.specs.Planes.{PlaneTables, onward_row, open_gate_rows, rows_of_terms, left_rows, rows_of_sum, rows_of_sums}
+use Rattle.pla_plan.specs.Planes.{PlaneTables, onward_row, open_gate_rows, rows_of_terms, left_rows, rows_of_sums}
 use Rattle.pla_plan.specs.Fits.{IsArray, IsPlaneGate, no_gate}
 use Rattle.pla_plan.proofs.OnwardRows.{ground_rows}
 

@@ -1,17 +1,30 @@
 //! What programmable logic arrays are. Each law is the contract of a function that runs nothing.
 
 ghost use Rattle.pla_plan.specs.Fits.{PlanesArePlans};
+ghost use Rattle.pla_plan.specs.PlaneModules.{PlanesAreModules};
 
-use gate_matrix::laws::{columns_are_of_nets, matrices_are_plans, parts_are_matrices};
-use micro_tiles::laws::{basic_tiles_are_named, transposes_are_mirrored};
+use gate_matrix::laws::{
+    columns_are_of_nets, matrices_are_modules, parts_are_modules, parts_fill_rows,
+};
+use stick_grid::laws::{coverings_are_modules, mirrors_are_modules, plain_modules};
+
+/// The tiles of an array make its network: each term and each sum is a gate with its load, and the part has its nets, its devices and
+/// its ports, which lead out to the south.
+pub fn planes_are_modules()
+    ensures { PlanesAreModules }
+{
+    columns_are_of_nets();
+    parts_fill_rows();
+    matrices_are_modules();
+    parts_are_modules();
+    plain_modules();
+    mirrors_are_modules();
+    coverings_are_modules();
+}
 
 /// The tiles of an array are a plan: neighbours meet, inside its parts and at their seams.
 pub fn planes_are_plans()
     ensures { PlanesArePlans }
 {
-    basic_tiles_are_named();
-    transposes_are_mirrored();
-    matrices_are_plans();
-    columns_are_of_nets();
-    parts_are_matrices();
+    planes_are_modules();
 }

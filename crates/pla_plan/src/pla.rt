@@ -10,7 +10,7 @@ use crate::laws::planes_are_plans;
 use crate::matrix::Matrix;
 use crate::plane_parts::{caps, left_matrix, lower_matrix, right_matrix};
 use crate::planes::Planes;
-use gate_matrix::laws::parts_are_matrices;
+use gate_matrix::laws::parts_fill_rows;
 use micro_tiles::{Basic, Tile, transposed};
 use rx_text::NoMemory;
 use std::alloc::Global;
@@ -84,7 +84,7 @@ impl Pla {
         requires is_col { col < self.now.cols }
         ensures { result ≡ planes_tile self.now row col }
     {
-        parts_are_matrices();
+        parts_fill_rows();
         let height = self.planes.plane_rows();
         if row < height {
             self.plane_tile(row, col)

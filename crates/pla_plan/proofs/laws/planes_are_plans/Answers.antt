@@ -1,7 +1,5 @@
-use Rattle.pla_plan.proofs.PlanesPlans as plans
+-- A module is a plan.
 use Rattle.pla_plan.proofs.laws.planes_are_plans.Goals as goal
 
 pub returns : goal.returns
-returns c =
-    plans.planes_are_plans c.basic_tiles_are_named.ensures c.transposes_are_mirrored.ensures c.matrices_are_plans.ensures c.columns_are_of_nets.ensures
-    c.parts_are_matrices.ensures
+returns c planes array = (c.planes_are_modules.ensures planes array).is_module.is_plan

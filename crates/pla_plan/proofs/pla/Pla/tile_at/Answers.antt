@@ -20,7 +20,7 @@ tile-requires-else-row-height-2-clause-is_row c =
     let array = c.plane_rows-height.ensures.array in
     let height = planes.rows - (plane_rows planes + 1) in
     let long = ap (λ (m : Matrix). length m.rows) c.self.invariant.part_is
-    ∙ (c.parts_are_matrices.ensures planes.part planes.at height planes.cols array.part_fits).height in
+    ∙ c.parts_fill_rows.ensures planes.part planes.at height planes.cols array.part_fits in
     let same = ap (λ (p : PlaneTables). p.rows) c.self.view_is in
     let beyond = c.if-row-height-2.false in
     omega (arith, c.plane_rows-height.ensures.number)
