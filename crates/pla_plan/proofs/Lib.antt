@@ -14,3 +14,4 @@ pub mod PlaneParts
 pub mod PlaneSeams
 pub mod PlaneHomes
 pub mod PlanesModules
+pub mod RowChips

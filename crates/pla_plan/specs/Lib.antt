@@ -2,5 +2,6 @@
 pub mod Planes
 pub mod Fits
 pub mod PlaneModules
+pub mod RowChips
 -- Definitions that serve private contracts alone:
 pub mod Made

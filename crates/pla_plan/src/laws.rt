@@ -2,6 +2,7 @@
 
 ghost use Rattle.pla_plan.specs.Fits.{PlanesArePlans};
 ghost use Rattle.pla_plan.specs.PlaneModules.{PlanesAreModules};
+ghost use Rattle.pla_plan.specs.RowChips.{RowChipsCoverPlans};
 
 use gate_matrix::laws::{
     columns_are_of_nets, matrices_are_modules, parts_are_modules, parts_fill_rows,
@@ -28,3 +29,8 @@ pub fn planes_are_plans()
 {
     planes_are_modules();
 }
+
+/// A chip that draws each row of a plan has the squares of the plan.
+pub fn row_chips_cover_plans()
+    ensures { RowChipsCoverPlans }
+{}
