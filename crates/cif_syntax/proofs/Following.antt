@@ -23,7 +23,7 @@ use Rattle.cif_syntax.proofs.ZeroStands.{ZeroFrom, from_digits, from_number, fro
 
 -- ---- parts of a text
 
-between_push : (text : List ℕ) (from at : ℕ) → from ≤ at → at < length text → between text from (at + 1) ≡ between text from at ++ get_or text at 0 ∷ []
+pub between_push : (text : List ℕ) (from at : ℕ) → from ≤ at → at < length text → between text from (at + 1) ≡ between text from at ++ get_or text at 0 ∷ []
 between_push text from at o w =
     let e : at + 1 - from ≡ at - from + 1 = omega arith in
     let f : from + (at - from) ≡ at = omega arith in
@@ -37,7 +37,7 @@ rest_between text from at o =
     let f : from + (at - from) ≡ at = omega arith in
     ap (λ (l : List ℕ). between text from at ++ l) (sym (drop-drop (at - from) from text ∙ ap (λ (i : ℕ). drop i text) f)) ∙ take-append-drop (at - from) (drop from text)
 
-nothing_between : (text : List ℕ) (from : ℕ) → between text from from ≡ []
+pub nothing_between : (text : List ℕ) (from : ℕ) → between text from from ≡ []
 nothing_between text from = let e : from - from ≡ 0 = omega arith in ap (λ (i : ℕ). take i (drop from text)) e
 
 -- ---- what is known on the way

@@ -10,3 +10,4 @@ pub mod Zeros
 pub mod ZeroStands
 pub mod Following
 pub mod Breaking
+pub mod Sorting

@@ -52,7 +52,7 @@ pub fn kind_of(byte: u8) -> Kind
 }
 
 /// Every byte but digits, capital letters, `-`, `(`, `)` and `;`.
-fn is_blank(byte: u8) -> bool
+pub fn is_blank(byte: u8) -> bool
     ensures { result ≡ is_cif_blank byte }
 {
     !(byte.is_ascii_digit()

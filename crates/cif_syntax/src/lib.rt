@@ -4,7 +4,9 @@
 
 mod due;
 mod kind;
+mod next;
 mod sentence;
 mod slot;
 
+pub use next::{Sentence, SyntaxFault, next_sentence};
 pub use sentence::{SentenceFault, sentence_end};
