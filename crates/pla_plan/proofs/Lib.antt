@@ -15,3 +15,5 @@ pub mod PlaneSeams
 pub mod PlaneHomes
 pub mod PlanesModules
 pub mod RowChips
+pub mod RowTilings
+pub mod ChipRows

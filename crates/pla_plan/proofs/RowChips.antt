@@ -1,14 +1,14 @@
 -- Chips that draw a plan row by row have its squares.
-use Rattle.std.proofs.Common.{◌≡◌, ◌↔◌, ◌⊎◌, inl, inr, ℕ, zero, suc, ◌+◌, ◌-◌, ◌*◌, ◌<◌, ◌≤◌, ℤ, pos, ◌-ℤ◌, List, [], ◌∷◌, length, slice_get, Some, refl, sym, ap, subst, ◌∙◌, arith}
+use Rattle.std.proofs.Common.{◌≡◌, inl, inr, ℕ, ◌+◌, ◌-◌, ◌*◌, ◌<◌, ◌≤◌, ℤ, pos, ◌-ℤ◌, List, [], ◌∷◌, length, Some, sym, subst, ◌∙◌, arith}
 use Rattle.std.proofs.lemmas.Int.{ints}
 use Rattle.std.proofs.lemmas.Bool.{cases_eq}
 use Rattle.geom.specs.declared.layer.Layer.{Layer}
 use Rattle.geom.specs.declared.chip.Call.{Call}
 use Rattle.geom.specs.Squares.{BoxShape, Covered}
-use Rattle.geom.specs.Chips.{ChipShape, Calls, CalledAt, ChipCovers}
+use Rattle.geom.specs.Chips.{CalledAt}
 use Rattle.micro_tiles.specs.Table.{boxes}
 use Rattle.stick_grid.specs.Plans.{Plan, Covers, local_x, local_y}
-use Rattle.pla_plan.specs.RowChips.{row_plan, DrawsRow, CallsRow, CallRows, IsRowChip, RowChipsCoverPlans}
+use Rattle.pla_plan.specs.RowChips.{row_plan, CallRows, RowChipsCoverPlans}
 
 some_is : {X : Type 0} (o : X) (p : X) → ◌≡◌ {A = _} (Some o) (Some p) → o ≡ p
 some_is o p e = cc

@@ -5,3 +5,4 @@ pub mod PlaneModules
 pub mod RowChips
 -- Definitions that serve private contracts alone:
 pub mod Made
+pub mod Numbered

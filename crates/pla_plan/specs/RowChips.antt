@@ -1,6 +1,5 @@
 -- Chips that draw a plan row by row, with one kind for all rows of the same squares.
 use Rattle.std.specs.Prelude.{◌≡◌, ◌≢◌, ◌↔◌, ℕ, ◌+◌, ◌-◌, ◌*◌, ◌<◌, ℤ, pos, List, [], ◌∷◌, length, slice_get, Some, AllPairs}
-use Rattle.std.specs.List.{Any}
 use Rattle.geom.specs.declared.layer.Layer.{Layer}
 use Rattle.geom.specs.declared.chip.Call.{Call}
 use Rattle.geom.specs.Squares.{BoxShape, Covered}
@@ -35,7 +34,7 @@ pub record IsRowChip (plan : Plan) (chip : ChipShape) : Type 0 where
   pub long : length chip.calls ≡ plan.rows
   pub rows : CallRows plan chip.kinds 0 chip.calls
   pub differ : AllPairs (λ a b. a ≢ b) chip.kinds
-  pub called : (kind : ℕ) → kind < length chip.kinds → Any (λ call. call.kind ≡ kind) chip.calls
+  pub called : (kind : ℕ) → kind < length chip.kinds → (k : ℕ) × (call : Call) × (slice_get chip.calls k ≡ Some call) × (call.kind ≡ kind)
 
 -- Such a chip has the squares of the plan.
 abbrev pub RowChipsCoverPlans : Type 0

@@ -1,6 +1,7 @@
 //! Programmable logic arrays: terms and sums of terms as two planes of gate matrices, over the part of a netlist that feeds them.
 #![tactic(auto)]
 
+pub mod chip;
 pub mod laws;
 pub mod matrix;
 pub mod pla;

@@ -130,7 +130,7 @@ impl Pla {
     }
 
     /// Adds the tiles of a row.
-    fn add_row(&self, row: u32, tiles: &mut Vec<Tile>) -> Result<(), NoMemory>
+    pub(crate) fn add_row(&self, row: u32, tiles: &mut Vec<Tile>) -> Result<(), NoMemory>
         requires { row < self.now.rows }
         ensures { OnOk result (tiles.new.items ≡ tiles.old.items ++ map (planes_tile self.now row) (range_with_len 0 self.now.cols)) }
     {
