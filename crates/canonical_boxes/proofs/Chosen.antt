@@ -62,7 +62,8 @@ chosen_push done b layer chosen e c =
       runs = λ h. runs_push chosen b (c.runs (runs_front done b h)) (last_box done b h) (λ v k. heed_last done b h v (c.back v k));
     }
 
-chosen_skip : (done : List BoxShape) (b : BoxShape) (layer : Layer) (chosen : List BoxShape) → (b.layer ≡ layer → ⊥) → IsChosen done layer chosen → IsChosen (done ++ b ∷ []) layer chosen
+chosen_skip : (done : List BoxShape) (b : BoxShape) (layer : Layer) (chosen : List BoxShape) → (b.layer ≡ layer → ⊥)
+    → IsChosen done layer chosen → IsChosen (done ++ b ∷ []) layer chosen
 chosen_skip done b layer chosen ne c = record {
   back = λ v k. among_left done (b ∷ []) v (c.back v k);
   layers = c.layers;
@@ -73,15 +74,18 @@ chosen_skip done b layer chosen ne c = record {
   runs = λ h. c.runs (runs_front done b h);
 }
 
-pub chosen_at : (xs : List BoxShape) (i : ℕ) (b : BoxShape) (layer : Layer) (chosen items : List BoxShape) → i < length xs → b ≡ get_or xs i b → b.layer ≡ layer
+pub chosen_at : (xs : List BoxShape) (i : ℕ) (b : BoxShape) (layer : Layer) (chosen items : List BoxShape) → i < length xs → b ≡ get_or xs i b
+    → b.layer ≡ layer
     → IsChosen (take i xs) layer chosen → items ≡ chosen ++ b ∷ [] → IsChosen (take (i + 1) xs) layer items
 chosen_at xs i b layer chosen items h e l c k = rw (k, taken_at xs i b h e) (chosen_push (take i xs) b layer chosen l c)
 
-pub chosen_past : (xs : List BoxShape) (i : ℕ) (b : BoxShape) (layer : Layer) (chosen items : List BoxShape) → i < length xs → b ≡ get_or xs i b → (b.layer ≡ layer → ⊥)
+pub chosen_past : (xs : List BoxShape) (i : ℕ) (b : BoxShape) (layer : Layer) (chosen items : List BoxShape) → i < length xs → b ≡ get_or xs i b
+    → (b.layer ≡ layer → ⊥)
     → IsChosen (take i xs) layer chosen → items ≡ chosen → IsChosen (take (i + 1) xs) layer items
 chosen_past xs i b layer chosen items h e ne c k = rw (k, taken_at xs i b h e) (chosen_skip (take i xs) b layer chosen ne c)
 
-pub chosen_all : (xs : List BoxShape) (i : ℕ) (layer : Layer) (chosen : List BoxShape) → length xs ≤ i → IsChosen (take i xs) layer chosen → IsChosen xs layer chosen
+pub chosen_all : (xs : List BoxShape) (i : ℕ) (layer : Layer) (chosen : List BoxShape) → length xs ≤ i → IsChosen (take i xs) layer chosen
+    → IsChosen xs layer chosen
 chosen_all xs i layer chosen h c =
     let e : take i xs ≡ xs = grind (arith, common_steps) in
     let P : List BoxShape → Type 0 = λ l. IsChosen l layer chosen in

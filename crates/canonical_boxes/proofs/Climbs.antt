@@ -1,5 +1,6 @@
 -- The way up along the left edge of a rectangle, box by box.
-use Rattle.std.proofs.Common.{◌≡◌, ◌↔◌, ℕ, ◌<◌, ◌≤◌, ℤ, pos, neg_ℤ, true, false, rules, ◌^◌, ◌+ℤ◌, ◌-ℤ◌, ◌≤ℤ◌, ◌<ℤ◌, List, inl, inr, length, sym, arith, subst}
+use Rattle.std.proofs.Common.{◌≡◌, ◌↔◌, ℕ, ◌<◌, ◌≤◌, ℤ, pos, neg_ℤ, true, false, rules, ◌^◌, ◌+ℤ◌, ◌-ℤ◌, ◌≤ℤ◌, ◌<ℤ◌, List, inl, inr, length, sym}
+use Rattle.std.proofs.Common.{arith, subst}
 use Rattle.std.proofs.lemmas.Int.{ints, by_lt_z, to_z-of_z}
 use lib.Signed.{le_z}
 use mir.Syntax.{w64}
@@ -93,7 +94,10 @@ module _ (m : List BoxShape) (canonical : IsCanonical m) where
       let Q : BoxShape → Type 0 = λ d. d.y1 ≡ b.y2 in
       let no : b.y1 ≡ b.y2 = subst Q (sym (at_one m i b c p (subst P (sym e) q))) row in
       absurd (omega (arith, ints)))
-      (λ l. absurd (elim (pair_at BeginsBefore m j i c b canonical.order q p l) [ inl z ↦ omega (arith, ints) | inr z ↦ let f : c.y1 ≡ b.y1 = z.0 in omega (arith, ints) ]))
+      (λ l. absurd (elim (pair_at BeginsBefore m j i c b canonical.order q p l) [
+        | inl z ↦ omega (arith, ints)
+        | inr z ↦ let f : c.y1 ≡ b.y1 = z.0 in omega (arith, ints)
+      ]))
 
   -- ---- what is counted at the upper edge of a box
 
@@ -184,7 +188,8 @@ pub fits_next : (x : ℤ) → neg_ℤ (pos (2 ^ 40)) ≤ℤ x → x <ℤ pos (2 
 fits_next x low high = search (rules, ints)
 
 pub numbers_of : (m : List BoxShape) (first end : ℕ) (b : BoxShape) (y x : ℤ) → SFits w64 y → SFits w64 x → SFits w64 (x +ℤ pos 1) → y ≡ b.y2
-    → ((k : ℕ) (d : BoxShape) → IsAt m k d → ((first ≤ k) × (k < end)) ↔ BeginsAmong d (to_z w64 (of_z w64 y)) (to_z w64 (of_z w64 x)) (to_z w64 (of_z w64 (to_z w64 (of_z w64 x) +ℤ pos 1))))
+    → ((k : ℕ) (d : BoxShape) → IsAt m k d → ((first ≤ k) × (k < end)) ↔ BeginsAmong d (to_z w64 (of_z w64 y)) (to_z w64 (of_z w64 x))
+    (to_z w64 (of_z w64 (to_z w64 (of_z w64 x) +ℤ pos 1))))
     → (k : ℕ) (d : BoxShape) → IsAt m k d → ((first ≤ k) × (k < end)) ↔ BeginsAmong d b.y2 x (x +ℤ pos 1)
 numbers_of m first end b y x fy fx fn e h k d at =
     let P : ℤ → Type 0 = λ z. ((first ≤ k) × (k < end)) ↔ BeginsAmong d z x (x +ℤ pos 1) in

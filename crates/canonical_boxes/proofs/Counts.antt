@@ -51,8 +51,10 @@ partitioned p m h earlier i j d le l passes =
     by_order i j
     (λ k.
     let at : IsAt m i (get_or m i d) = at_of m i d (omega arith) in
-    earlier (get_or m i d) (get_or m j d) (h.boxes (get_or m i d) (at_among m i (get_or m i d) at)) (h.boxes (get_or m j d) (at_among m j (get_or m j d) q))
-    (pair_at AreParted m i j (get_or m i d) (get_or m j d) h.parted at q k) (pair_at BeginsBefore m i j (get_or m i d) (get_or m j d) h.order at q k) passes)
+    earlier (get_or m i d) (get_or m j d) (h.boxes (get_or m i d) (at_among m i (get_or m i d) at))
+    (h.boxes (get_or m j d) (at_among m j (get_or m j d) q))
+    (pair_at AreParted m i j (get_or m i d) (get_or m j d) h.parted at q k)
+    (pair_at BeginsBefore m i j (get_or m i d) (get_or m j d) h.order at q k) passes)
     (λ e. let P : ℕ → Type 0 = λ n. p (get_or m n d) ≡ true in subst P (sym e) passes)
     (λ k. absurd (omega arith))
 
@@ -72,7 +74,8 @@ passed_partitioned y x m h = partitioned (is_passed y x) m h earlier
             let high : (a.y1 <ℤ a.y2) = box.upward.order in
             let high' : (b.y1 <ℤ b.y2) = box'.upward.order in
             let wide' : (b.x1 <ℤ b.x2) = box'.across.order in
-            elim (apart a.y1 (record { bottom = omega (arith, ints); top = high }) (record { bottom = omega (arith, ints); top = omega (arith, ints) })) [
+            elim (apart a.y1 (record { bottom = omega (arith, ints); top = high })
+            (record { bottom = omega (arith, ints); top = omega (arith, ints) })) [
               | inl z ↦ inr (omega (arith, ints), omega (arith, ints))
               | inr z ↦ absurd (omega (arith, ints))
             ]
@@ -135,5 +138,8 @@ begins_at b y from to p q k passed reached = (
         let row : b.y1 ≡ y = h.row in
         let left : (from <ℤ b.x2) = h.left in
         by_order k p
-        (λ l. absurd (elim (passed_is y from b (passed.0 l)) [ inl z ↦ omega (arith, ints) | inr z ↦ let end : (b.x2 ≤ℤ from) = z.1 in omega (arith, ints) ]))
+        (λ l. absurd (elim (passed_is y from b (passed.0 l)) [
+          | inl z ↦ omega (arith, ints)
+          | inr z ↦ let end : (b.x2 ≤ℤ from) = z.1 in omega (arith, ints)
+        ]))
         (λ e. omega arith) (λ l. omega arith)

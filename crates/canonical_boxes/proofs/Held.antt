@@ -1,5 +1,6 @@
 -- What is held, rectangle by rectangle.
-use Rattle.std.proofs.Common.{◌≡◌, ◌↔◌, ℕ, zero, suc, ◌<◌, ◌+◌, Bool, false, IsTrue, List, [], ◌∷◌, ◌++◌, map, length, get_or, refl, sym, ◌∙◌, ap, arith, subst}
+use Rattle.std.proofs.Common.{◌≡◌, ◌↔◌, ℕ, zero, suc, ◌<◌, ◌+◌, Bool, false, IsTrue, List, [], ◌∷◌, ◌++◌, map, length, get_or, refl, sym, ◌∙◌, ap}
+use Rattle.std.proofs.Common.{arith, subst}
 use Rattle.std.proofs.lemmas.Grind.{common_steps}
 use Rattle.geom.specs.Squares.{BoxShape}
 use Rattle.canonical_boxes.specs.declared.holding.Area.{Area}
@@ -24,7 +25,8 @@ pub record AreHeldBelow (m : List BoxShape) (areas : List Area) (n : ℕ) (held 
 pub none_below : (m : List BoxShape) (areas : List Area) → AreHeldBelow m areas 0 []
 none_below m areas = record { size = refl; each = λ k a at l. absurd (omega arith) }
 
-pub held_more : (m : List BoxShape) (areas : List Area) (n : ℕ) (a : Area) (old new : List Bool) (v : Bool) → IsAt areas n a → new ≡ old ++ v ∷ [] → IsTrue v ↔ Holds m a
+pub held_more : (m : List BoxShape) (areas : List Area) (n : ℕ) (a : Area) (old new : List Bool) (v : Bool) → IsAt areas n a
+    → new ≡ old ++ v ∷ [] → IsTrue v ↔ Holds m a
     → AreHeldBelow m areas n old → AreHeldBelow m areas (n + 1) new
 held_more m areas n a old new v at e is h =
     let size : length old ≡ n = h.size in
@@ -46,5 +48,6 @@ held_more m areas n a old new v at e is h =
           (λ z. absurd (omega arith));
     }
 
-pub all_below : (m : List BoxShape) (areas : List Area) (n : ℕ) (held : List Bool) → n ≡ length areas → AreHeldBelow m areas n held → AreHeld m areas held
+pub all_below : (m : List BoxShape) (areas : List Area) (n : ℕ) (held : List Bool) → n ≡ length areas → AreHeldBelow m areas n held
+    → AreHeld m areas held
 all_below m areas n held e h = record { size = h.size ∙ e; each = λ k a at. let w : k < length areas = at.within in h.each k a at (omega arith) }

@@ -40,7 +40,8 @@ module _ (S : Squares) (b : BoxShape) (all : (x y : ℤ) → Inside b x y → S 
   west zero x y s e i k = still S x y s y (omega (arith, ints)) refl
   west (suc n) x y s e i k =
       let next : Inside b (x -ℤ pos 1) y = record { left = omega (arith, ints); right = omega (arith, ints); bottom = i.bottom; top = i.top } in
-      step x y (x -ℤ pos 1) y s y (inr (refl, inr (omega (arith, ints)))) (all (x -ℤ pos 1) y next) (west n (x -ℤ pos 1) y s (omega (arith, ints)) next k)
+      step x y (x -ℤ pos 1) y s y (inr (refl, inr (omega (arith, ints)))) (all (x -ℤ pos 1) y next)
+      (west n (x -ℤ pos 1) y s (omega (arith, ints)) next k)
 
   north : (n : ℕ) (x y t : ℤ) → t ≡ y +ℤ pos n → Inside b x y → Inside b x t → Leads S x y x t
   north zero x y t e i k = still S x y x t refl (omega (arith, ints))
@@ -52,7 +53,8 @@ module _ (S : Squares) (b : BoxShape) (all : (x y : ℤ) → Inside b x y → S 
   south zero x y t e i k = still S x y x t refl (omega (arith, ints))
   south (suc n) x y t e i k =
       let next : Inside b x (y -ℤ pos 1) = record { left = i.left; right = i.right; bottom = omega (arith, ints); top = omega (arith, ints) } in
-      step x y x (y -ℤ pos 1) x t (inl (refl, inr (omega (arith, ints)))) (all x (y -ℤ pos 1) next) (south n x (y -ℤ pos 1) t (omega (arith, ints)) next k)
+      step x y x (y -ℤ pos 1) x t (inl (refl, inr (omega (arith, ints)))) (all x (y -ℤ pos 1) next)
+      (south n x (y -ℤ pos 1) t (omega (arith, ints)) next k)
 
   along : (x y s : ℤ) → Inside b x y → Inside b s y → Leads S x y s y
   along x y s i k = by_lt_z x s
@@ -134,12 +136,14 @@ module _ (m : List BoxShape) (h : IsCanonical m) where
         c.below,
         t.lower,
         c.under,
-        chain (Over m) x y c.column (c.below +ℤ pos 1) c.column c.below (within i t.over t.upper x y c.column (c.below +ℤ pos 1) (subst P (sym one) k) c.over)
+        chain (Over m) x y c.column (c.below +ℤ pos 1) c.column c.below
+            (within i t.over t.upper x y c.column (c.below +ℤ pos 1) (subst P (sym one) k) c.over)
             (step c.column (c.below +ℤ pos 1) c.column c.below c.column c.below (inl (refl, inr refl))
             (over_of m t.under c.column c.below (at_among m j t.under t.lower) c.under) (here c.column c.below)),
       )
 
-  from_boxes : (i j : ℕ) → BoxesLead m i j → (a b : BoxShape) (x y u v : ℤ) → IsAt m i a → IsAt m j b → Inside a x y → Inside b u v → Leads (Over m) x y u v
+  from_boxes : (i j : ℕ) → BoxesLead m i j → (a b : BoxShape) (x y u v : ℤ) → IsAt m i a → IsAt m j b → Inside a x y → Inside b u v → Leads
+      (Over m) x y u v
   from_boxes _ _ (at_box i) a b x y u v p q k l =
       let P : BoxShape → Type 0 = λ c. Inside c u v in
       within i a p x y u v k (subst P (at_one m i b a q p) l)
@@ -148,7 +152,8 @@ module _ (m : List BoxShape) (h : IsCanonical m) where
       chain (Over m) x y c.1 c.2 u v c.5 (from_boxes j n rest c.0 b c.1 c.2 u v c.3 q c.4 l)
 
   -- The box of a square beside one of a box is that box, or touches it.
-  next_box : (i j : ℕ) (a b : BoxShape) (x y u v : ℤ) → IsAt m i a → IsAt m j b → Inside a x y → Inside b u v → ShareSide x y u v → (i ≡ j) ⊎ AreTouching m i j
+  next_box : (i j : ℕ) (a b : BoxShape) (x y u v : ℤ) → IsAt m i a → IsAt m j b → Inside a x y → Inside b u v → ShareSide x y u v →
+      (i ≡ j) ⊎ AreTouching m i j
   next_box i j a b x y u v p q k l side = elim (one_or_parted m h i j a b p q) [
     | inl e ↦ inl e
     | inr apart ↦ elim side [
@@ -172,19 +177,36 @@ module _ (m : List BoxShape) (h : IsCanonical m) where
 
       above : AreParted a b → x ≡ u → v ≡ y +ℤ pos 1 → (i ≡ j) ⊎ AreTouching m i j
       above apart e up = by_lt_z v a.y2
-          (λ z. absurd (elim (apart v (record { bottom = omega (arith, ints); top = z }) (record { bottom = l.bottom; top = l.top })) [ inl n ↦ omega (arith, ints) | inr n ↦ omega (arith, ints) ]))
+          (λ z. absurd (elim (apart v (record { bottom = omega (arith, ints); top = z })
+          (record { bottom = l.bottom; top = l.top })) [ inl n ↦ omega (arith, ints) | inr n ↦ omega (arith, ints) ]))
           (λ z. by_lt_z y b.y1
-          (λ w. inr (inl (record { under = a; over = b; lower = p; upper = q; stands = record { edge = omega (arith, ints); left = omega (arith, ints); right = omega (arith, ints) } })))
-          (λ w. absurd (elim (apart y (record { bottom = k.bottom; top = k.top }) (record { bottom = w; top = omega (arith, ints) })) [ inl n ↦ omega (arith, ints) | inr n ↦ omega (arith, ints) ])))
+          (λ w. inr (inl (record {
+            under = a;
+            over = b;
+            lower = p;
+            upper = q;
+            stands = record { edge = omega (arith, ints); left = omega (arith, ints); right = omega (arith, ints) };
+          })))
+          (λ w. absurd (elim (apart y (record { bottom = k.bottom; top = k.top })
+          (record { bottom = w; top = omega (arith, ints) })) [ inl n ↦ omega (arith, ints) | inr n ↦ omega (arith, ints) ])))
 
       below : AreParted a b → x ≡ u → y ≡ v +ℤ pos 1 → (i ≡ j) ⊎ AreTouching m i j
       below apart e down = by_lt_z y b.y2
-          (λ z. absurd (elim (apart y (record { bottom = k.bottom; top = k.top }) (record { bottom = omega (arith, ints); top = z })) [ inl n ↦ omega (arith, ints) | inr n ↦ omega (arith, ints) ]))
+          (λ z. absurd (elim (apart y (record { bottom = k.bottom; top = k.top })
+          (record { bottom = omega (arith, ints); top = z })) [ inl n ↦ omega (arith, ints) | inr n ↦ omega (arith, ints) ]))
           (λ z. by_lt_z v a.y1
-          (λ w. inr (inr (record { under = b; over = a; lower = q; upper = p; stands = record { edge = omega (arith, ints); left = omega (arith, ints); right = omega (arith, ints) } })))
-          (λ w. absurd (elim (apart v (record { bottom = w; top = omega (arith, ints) }) (record { bottom = l.bottom; top = l.top })) [ inl n ↦ omega (arith, ints) | inr n ↦ omega (arith, ints) ])))
+          (λ w. inr (inr (record {
+            under = b;
+            over = a;
+            lower = q;
+            upper = p;
+            stands = record { edge = omega (arith, ints); left = omega (arith, ints); right = omega (arith, ints) };
+          })))
+          (λ w. absurd (elim (apart v (record { bottom = w; top = omega (arith, ints) })
+          (record { bottom = l.bottom; top = l.top })) [ inl n ↦ omega (arith, ints) | inr n ↦ omega (arith, ints) ])))
 
-  from_squares : (x y s t : ℤ) → Leads (Over m) x y s t → (i j : ℕ) (a b : BoxShape) → IsAt m i a → IsAt m j b → Inside a x y → Inside b s t → BoxesLead m i j
+  from_squares : (x y s t : ℤ) → Leads (Over m) x y s t → (i j : ℕ) (a b : BoxShape) → IsAt m i a → IsAt m j b → Inside a x y → Inside b s t
+      → BoxesLead m i j
   from_squares _ _ _ _ (here x y) i j a b p q k l =
       let P : ℕ → Type 0 = λ n. BoxesLead m i n in
       subst P (same_number m h i j a b x y p q k l) (at_box i)
@@ -197,7 +219,8 @@ module _ (m : List BoxShape) (h : IsCanonical m) where
         | inr touch ↦ to_box i n.number j touch more
       ]
 
-  pub leads_by_touches : (i j : ℕ) (a b : BoxShape) (x y u v : ℤ) → IsAt m i a → IsAt m j b → Inside a x y → Inside b u v → Leads (Over m) x y u v ↔ BoxesLead m i j
+  pub leads_by_touches : (i j : ℕ) (a b : BoxShape) (x y u v : ℤ) → IsAt m i a → IsAt m j b → Inside a x y → Inside b u v → Leads
+      (Over m) x y u v ↔ BoxesLead m i j
   leads_by_touches i j a b x y u v p q k l = (
     (λ path. from_squares x y u v path i j a b p q k l),
     (λ path. from_boxes i j path a b x y u v p q k l),

@@ -9,3 +9,6 @@ pub mod Sweeps
 pub mod Queries
 pub mod Climbs
 pub mod Held
+pub mod Skies
+pub mod Gapped
+pub mod Combined

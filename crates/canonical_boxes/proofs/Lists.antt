@@ -1,5 +1,6 @@
 -- Elements of lists, by number.
-use Rattle.std.proofs.Common.{◌≡◌, ℕ, suc, zero, ◌<◌, ◌≤◌, ◌+◌, pos, List, [], ◌∷◌, ◌++◌, ◌⊎◌, inl, inr, length, take, drop, get_or, refl, sym, ◌∙◌, ap, arith, subst}
+use Rattle.std.proofs.Common.{◌≡◌, ℕ, suc, zero, ◌<◌, ◌≤◌, ◌+◌, pos, List, [], ◌∷◌, ◌++◌, ◌⊎◌, inl, inr, length, take, drop, get_or, refl, sym}
+use Rattle.std.proofs.Common.{◌∙◌, ap, arith, subst}
 use Rattle.std.proofs.lemmas.Grind.{common_steps}
 use Rattle.std.proofs.lemmas.List.{get_or_default}
 use Rattle.std.proofs.lemmas.Int.{ints, by_lt_z}
@@ -25,10 +26,12 @@ among_last [] v b e = inl e
 among_last (d ∷ ds) v b e = inr (among_last ds v b e)
 
 pub taken_at : {X : Type 0} (xs : List X) (i : ℕ) (b : X) → i < length xs → b ≡ get_or xs i b → take (i + 1) xs ≡ take i xs ++ b ∷ []
-taken_at {X} xs i b h e = let t : take (i + 1) xs ≡ take i xs ++ get_or xs i b ∷ [] = grind (arith, common_steps) in t ∙ ap (λ (v : X). take i xs ++ v ∷ []) (sym e)
+taken_at {X} xs i b h e = let t : take (i + 1) xs ≡ take i xs ++ get_or xs i b ∷ [] = grind (arith, common_steps) in t ∙ ap
+    (λ (v : X). take i xs ++ v ∷ []) (sym e)
 
 pub left_at : {X : Type 0} (xs : List X) (i : ℕ) (b : X) → i < length xs → b ≡ get_or xs i b → drop i xs ≡ b ∷ drop (i + 1) xs
-left_at {X} xs i b h e = let t : drop i xs ≡ get_or xs i b ∷ drop (i + 1) xs = grind (arith, common_steps) in t ∙ ap (λ (v : X). v ∷ drop (i + 1) xs) (sym e)
+left_at {X} xs i b h e = let t : drop i xs ≡ get_or xs i b ∷ drop (i + 1) xs = grind (arith, common_steps) in t ∙ ap
+    (λ (v : X). v ∷ drop (i + 1) xs) (sym e)
 
 pub all_taken : {X : Type 0} (xs : List X) (i : ℕ) → length xs ≤ i → take i xs ≡ xs
 all_taken xs i h = grind (arith, common_steps)
@@ -41,7 +44,8 @@ pairwise_steps {X} R trans (x ∷ xs) s =
     let tail : Pairwise R xs = pairwise_steps R trans xs (next_steps R x xs s) in
     ((λ c i. first_steps R trans x xs c s tail i), tail)
   where
-    next_steps : {X : Type 0} (R : X → X → Type 0) (x : X) (xs : List X) → ((k : ℕ) (d : X) → k + 1 < length (x ∷ xs) → R (get_or (x ∷ xs) k d) (get_or (x ∷ xs) (k + 1) d))
+    next_steps : {X : Type 0} (R : X → X → Type 0) (x : X) (xs : List X) →
+        ((k : ℕ) (d : X) → k + 1 < length (x ∷ xs) → R (get_or (x ∷ xs) k d) (get_or (x ∷ xs) (k + 1) d))
         → (k : ℕ) (d : X) → k + 1 < length xs → R (get_or xs k d) (get_or xs (k + 1) d)
     next_steps R x xs s k d h =
         let e : suc k + 1 ≡ suc (k + 1) = omega arith in
@@ -120,4 +124,5 @@ pair_at R (z ∷ zs) (suc i) (suc j) x y h p q l =
     pair_at R zs i j x y h.1 (record { within = omega arith; is = p.is }) (record { within = omega arith; is = q.is }) (omega arith)
 
 pub permuted : {X : Type 0} (xs ys : List X) (x : X) → IsPermutation xs ys → Among xs x → Among ys x
-permuted xs ys x p h = let c : Contains ys x = Contains-permutation xs ys x p (to_contains xs x h) in at_among ys c.0 x (record { within = c.1; is = c.2 })
+permuted xs ys x p h = let c : Contains ys x = Contains-permutation xs ys x p (to_contains xs x h) in at_among ys c.0 x
+    (record { within = c.1; is = c.2 })

@@ -15,7 +15,8 @@ AreTouchesBelow m n found = (t : Touch) → Among found t ↔ ((t.lower < n) × 
 pub none_below : (m : List BoxShape) → AreTouchesBelow m 0 []
 none_below m t = ((λ h. absurd h), (λ h. absurd (omega (arith, h.0))))
 
-pub one_more : (m : List BoxShape) (n : ℕ) (before after : List Touch) → AreTouchesBelow m n before → AddsTouches m n before after → AreTouchesBelow m (n + 1) after
+pub one_more : (m : List BoxShape) (n : ℕ) (before after : List Touch) → AreTouchesBelow m n before → AddsTouches m n before after
+    → AreTouchesBelow m (n + 1) after
 one_more m n before after h adds t = (
   (λ i. elim ((adds t).0 i) [
     | inl old ↦ let two = (h t).0 old in (omega (arith, two.0), two.1)
@@ -37,7 +38,8 @@ all_below m n found l h t = (
 
 -- the pairs before, and those of this lower box with the upper ones from one number up to two others
 abbrev pub AddsPairs : ℕ → ℕ → ℕ → ℕ → List Touch → List Touch → Type 0
-AddsPairs lower first now end before found = (t : Touch) → Among found t ↔ (Among before t ⊎ ((t.lower ≡ lower) × (first ≤ t.upper) × (t.upper < now) × (t.upper < end)))
+AddsPairs lower first now end before found = (t : Touch) → Among found t ↔
+    (Among before t ⊎ ((t.lower ≡ lower) × (first ≤ t.upper) × (t.upper < now) × (t.upper < end)))
 
 pub no_pair : (lower first end : ℕ) (before : List Touch) → AddsPairs lower first first end before before
 no_pair lower first end before t = (
@@ -48,7 +50,8 @@ no_pair lower first end before t = (
 touch_is : (t : Touch) (l u : ℕ) → t.lower ≡ l → t.upper ≡ u → record { lower = l; upper = u } ≡ t
 touch_is t l u e f = let r : record { lower = l; upper = u } ≡ record { lower = t.lower; upper = t.upper } = rw (e, f) refl in r
 
-pub pair_more : (lower first now end : ℕ) (before found after : List Touch) → first ≤ now → now < end → after ≡ found ++ record { lower = lower; upper = now } ∷ []
+pub pair_more : (lower first now end : ℕ) (before found after : List Touch) → first ≤ now → now < end
+    → after ≡ found ++ record { lower = lower; upper = now } ∷ []
     → AddsPairs lower first now end before found → AddsPairs lower first (now + 1) end before after
 pair_more lower first now end before found after from to e h t =
     let new : Touch = record { lower = lower; upper = now } in
@@ -84,7 +87,16 @@ pairs_are m lower first now end b before found at fits past numbers h t = (
         let q : IsAt m t.upper c = at_of m t.upper b w in
         let begins : BeginsAmong c b.y2 b.x1 b.x2 = (numbers t.upper c q).0 (k.1, k.3) in
         let P : ℕ → Type 0 = λ n. IsAt m n b in
-        inr (k.0, record { under = b; over = c; lower = subst P (sym k.0) at; upper = q; stands = record { edge = sym begins.row; left = begins.left; right = begins.right } })
+        inr (
+          k.0,
+          record {
+            under = b;
+            over = c;
+            lower = subst P (sym k.0) at;
+            upper = q;
+            stands = record { edge = sym begins.row; left = begins.left; right = begins.right };
+          },
+        )
   ]),
   (λ k. elim k [
     | inl old ↦ (h t).1 (inl old)

@@ -21,8 +21,10 @@ parted_of a b box box' sep y r s =
     (λ k. by_lt_z b.x1 a.x2
     (λ h'. by_lt_z a.x1 b.x2
     (λ k'. absurd (by_lt_z a.x1 b.x1
-    (λ z. sep.squares b.x1 y (record { left = omega (arith, ints); right = h'; bottom = r.bottom; top = r.top }) (record { left = omega (arith, ints); right = bx; bottom = s.bottom; top = s.top }))
-    (λ z. sep.squares a.x1 y (record { left = omega (arith, ints); right = ax; bottom = r.bottom; top = r.top }) (record { left = z; right = k'; bottom = s.bottom; top = s.top }))))
+    (λ z. sep.squares b.x1 y (record { left = omega (arith, ints); right = h'; bottom = r.bottom; top = r.top })
+    (record { left = omega (arith, ints); right = bx; bottom = s.bottom; top = s.top }))
+    (λ z. sep.squares a.x1 y (record { left = omega (arith, ints); right = ax; bottom = r.bottom; top = r.top })
+    (record { left = z; right = k'; bottom = s.bottom; top = s.top }))))
     (λ k'. absurd (sep.left y r s (omega (arith, ints)))))
     (λ h'. absurd (sep.right y r s (omega (arith, ints))))))
 
@@ -95,12 +97,14 @@ covered_of [] b layer x y h e i = absurd h
 covered_of (c ∷ cs) b layer x y (inl h) e i = inl (rw h (e, i))
 covered_of (c ∷ cs) b layer x y (inr h) e i = inr (covered_of cs b layer x y h e i)
 
-over_where : (bs m : List BoxShape) (layer : Layer) (x y : ℤ) → ((b : BoxShape) → Among bs b → b.layer ≡ layer → Among m b) → Covered bs layer x y → Over m x y
+over_where : (bs m : List BoxShape) (layer : Layer) (x y : ℤ) → ((b : BoxShape) → Among bs b → b.layer ≡ layer → Among m b)
+    → Covered bs layer x y → Over m x y
 over_where [] m layer x y f h = absurd h
 over_where (b ∷ bs) m layer x y f (inl h) = over_of m b x y (f b (inl refl) h.0) h.1
 over_where (b ∷ bs) m layer x y f (inr h) = over_where bs m layer x y (λ c i. f c (inr i)) h
 
-pub chosen_squares : (drawn : List BoxShape) (layer : Layer) (m : List BoxShape) → IsChosen drawn layer m → (x y : ℤ) → Over m x y ↔ Covered drawn layer x y
+pub chosen_squares : (drawn : List BoxShape) (layer : Layer) (m : List BoxShape) → IsChosen drawn layer m → (x y : ℤ)
+    → Over m x y ↔ Covered drawn layer x y
 chosen_squares drawn layer m c x y = (
   (λ h. let o : OverBy m x y = over_by m x y h in covered_of drawn o.box layer x y (c.back o.box o.among) (c.layers o.box o.among) o.inside),
   (λ h. over_where drawn m layer x y c.forth h),
@@ -108,7 +112,8 @@ chosen_squares drawn layer m c x y = (
 
 metal_over : (bs : List BoxShape) (x y : ℤ) → Covered (map in_metal bs) Metal x y → Over bs x y
 metal_over [] x y h = absurd h
-metal_over (b ∷ bs) x y (inl h) = let i : Inside (in_metal b) x y = h.1 in inl (record { left = i.left; right = i.right; bottom = i.bottom; top = i.top })
+metal_over (b ∷ bs) x y (inl h) = let i : Inside (in_metal b) x y = h.1 in inl
+    (record { left = i.left; right = i.right; bottom = i.bottom; top = i.top })
 metal_over (b ∷ bs) x y (inr h) = inr (metal_over bs x y h)
 
 over_metal : (bs : List BoxShape) (x y : ℤ) → Over bs x y → Covered (map in_metal bs) Metal x y
@@ -117,7 +122,8 @@ over_metal (b ∷ bs) x y (inl i) = inl (refl, record { left = i.left; right = i
 over_metal (b ∷ bs) x y (inr h) = inr (over_metal bs x y h)
 
 -- boxes in one layer, merged, and taken out again
-pub merged_squares : (bs metal merged m : List BoxShape) → metal ≡ map in_metal bs → Merges metal merged → ((x y : ℤ) → Over m x y ↔ Covered merged Metal x y)
+pub merged_squares : (bs metal merged m : List BoxShape) → metal ≡ map in_metal bs → Merges metal merged →
+    ((x y : ℤ) → Over m x y ↔ Covered merged Metal x y)
     → (x y : ℤ) → Over m x y ↔ Over bs x y
 merged_squares bs metal merged m e h same x y =
     let P : List BoxShape → Type 0 = λ l. Covered merged Metal x y ↔ Covered l Metal x y in
@@ -136,7 +142,8 @@ one_or_parted m h i j a b p q = by_order i j
     (λ k. inr (swapped b a (pair_at AreParted m j i b a h.parted q p k)))
 
 -- boxes with a common square have one number
-pub same_number : (m : List BoxShape) → IsCanonical m → (i j : ℕ) (a b : BoxShape) (x y : ℤ) → IsAt m i a → IsAt m j b → Inside a x y → Inside b x y → i ≡ j
+pub same_number : (m : List BoxShape) → IsCanonical m → (i j : ℕ) (a b : BoxShape) (x y : ℤ) → IsAt m i a → IsAt m j b → Inside a x y
+    → Inside b x y → i ≡ j
 same_number m h i j a b x y p q k l = elim (one_or_parted m h i j a b p q) [
   | inl e ↦ e
   | inr apart ↦ elim (apart y (record { bottom = k.bottom; top = k.top }) (record { bottom = l.bottom; top = l.top })) [

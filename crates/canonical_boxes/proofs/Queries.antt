@@ -1,5 +1,6 @@
 -- Squares that are asked about row by row, and what is found at each.
-use Rattle.std.proofs.Common.{◌≡◌, ℕ, ◌<◌, ◌≤◌, ◌+◌, ℤ, List, [], ◌∷◌, ◌++◌, inl, inr, Option, None, length, take, drop, get_or, set, refl, sym, ◌∙◌, ap, ap₂, arith, subst, false}
+use Rattle.std.proofs.Common.{◌≡◌, ℕ, ◌<◌, ◌≤◌, ◌+◌, ℤ, List, [], ◌∷◌, ◌++◌, inl, inr, Option, None, length, take, drop, get_or, set, refl, sym}
+use Rattle.std.proofs.Common.{◌∙◌, ap, ap₂, arith, subst, false}
 use Rattle.std.specs.List.Sorted.{IsSortedByKey, IsPermutation}
 use Rattle.std.proofs.lemmas.List.Sorted.{IsPermutation-sym}
 use Rattle.std.specs.Ordering.{int_cmp, is_lt}
@@ -30,7 +31,8 @@ query_at y n = record { y = y; number = n }
 pub no_query : (squares : List Point) → AreQueriesBelow squares 0 []
 no_query squares = record { each = λ k p at l. absurd (omega arith); back = λ q i. absurd i }
 
-pub query_more : (squares : List Point) (n : ℕ) (p : Point) (old new : List Query) → IsAt squares n p → new ≡ old ++ record { y = p.y; number = n } ∷ []
+pub query_more : (squares : List Point) (n : ℕ) (p : Point) (old new : List Query) → IsAt squares n p
+    → new ≡ old ++ record { y = p.y; number = n } ∷ []
     → AreQueriesBelow squares n old → AreQueriesBelow squares (n + 1) new
 query_more squares n p old new at e h =
     let query : Query = record { y = p.y; number = n } in
@@ -58,7 +60,8 @@ lower_of b c h = by_lt_z c.y b.y (λ l. absurd (grind (arith, ints))) (λ l. l)
 -- what `sort_by_key` ensures at the rows
 pub rows_rise : {F : Type 0} {g : Mut F (Bor Query × Unit {0}) ℤ} {f : F} (squares : List Point) (xs ys : List Query) → IsPermutation xs ys
     → ((key : Query → ℤ) → ComputesKey g key f → IsSortedByKey key int_cmp ys)
-    → ((a : Bor Query × Unit {0}) (r : ℤ) (f' : F) → Called g f a r f' → (r ≡ a.0.now.y) × (f' ≡ f)) → AreQueriesBelow squares (length squares) xs → AreQueries squares ys
+    → ((a : Bor Query × Unit {0}) (r : ℤ) (f' : F) → Called g f a r f' → (r ≡ a.0.now.y) × (f' ≡ f)) → AreQueriesBelow squares
+    (length squares) xs → AreQueries squares ys
 rows_rise {g = g} {f = f} squares xs ys p up h all =
     let s : IsSortedByKey (λ (q : Query). q.y) int_cmp ys = up (λ (q : Query). q.y) (always_returns_same g (λ a r. r ≡ a.0.now.y) f h) in
     record {
@@ -72,19 +75,23 @@ rows_rise {g = g} {f = f} squares xs ys p up h all =
 -- ---- what is found
 
 -- What the sweep holds is right for the queries that are left; for those that were asked, what is over their squares is found.
-pub record AreAsked (m : List BoxShape) (squares : List Point) (asked left : List Query) (begun : ℕ) (runs : BTreeMap ℤ ℕ) (found : List (Option ℕ)) : Type 0 where
+pub record AreAsked (m : List BoxShape) (squares : List Point) (asked left : List Query) (begun : ℕ) (runs : BTreeMap ℤ ℕ)
+    (found : List (Option ℕ)) : Type 0 where
   pub held : (q : Query) → Among left q → IsHeld m begun q.y runs
   pub rising : Pairwise IsLower left
   pub size : length found ≡ length squares
   pub located : (q : Query) → Among asked q → (p : Point) → IsAt squares q.number p → IsLocated m p.x p.y (get_or found q.number None)
 
-pub none_asked : (m : List BoxShape) (squares : List Point) (queries : List Query) (begun : ℕ) (runs : BTreeMap ℤ ℕ) (found : List (Option ℕ)) → ((y : ℤ) → IsHeld m begun y runs)
+pub none_asked : (m : List BoxShape) (squares : List Point) (queries : List Query) (begun : ℕ) (runs : BTreeMap ℤ ℕ) (found : List (Option ℕ)) →
+    ((y : ℤ) → IsHeld m begun y runs)
     → AreQueries squares queries → length found ≡ length squares → AreAsked m squares [] queries begun runs found
 none_asked m squares queries begun runs found h q e = record { held = λ r i. h r.y; rising = q.rising; size = e; located = λ r i. absurd i }
 
-pub asked_more : (m : List BoxShape) (squares : List Point) (queries : List Query) (i : ℕ) (q : Query) (p : Point) (begun begun' : ℕ) (runs runs' : BTreeMap ℤ ℕ) (old new : List (Option ℕ)) (v : Option ℕ)
+pub asked_more : (m : List BoxShape) (squares : List Point) (queries : List Query) (i : ℕ) (q : Query) (p : Point) (begun begun' : ℕ)
+    (runs runs' : BTreeMap ℤ ℕ) (old new : List (Option ℕ)) (v : Option ℕ)
     → IsAt queries i q → IsAt squares q.number p → p.y ≡ q.y → new ≡ set old q.number v → IsLocated m p.x q.y v → IsHeld m begun' q.y runs'
-    → AreAsked m squares (take i queries) (drop i queries) begun runs old → AreAsked m squares (take (i + 1) queries) (drop (i + 1) queries) begun' runs' new
+    → AreAsked m squares (take i queries) (drop i queries) begun runs old → AreAsked m squares (take (i + 1) queries)
+    (drop (i + 1) queries) begun' runs' new
 asked_more m squares queries i q p begun begun' runs runs' old new v asked at row e over held h =
     let P : List Query → Type 0 = λ left. Pairwise IsLower left in
     let rising : Pairwise IsLower (q ∷ drop (i + 1) queries) = subst P (left_at queries i q asked.within (sym asked.is)) h.rising in
@@ -117,7 +124,8 @@ asked_more m squares queries i q p begun begun' runs runs' old new v asked at ro
         let S : Point → Type 0 = λ z. IsLocated m z.x z.y (get_or new r.number None) in
         subst S (sym one) (subst Q (sym value) (subst R (sym row) over))
 
-    other : (r : Query) (o : Point) → IsAt squares r.number o → Among (take (i + 1) queries) r → (r.number ≡ q.number → ⊥) → IsLocated m o.x o.y (get_or new r.number None)
+    other : (r : Query) (o : Point) → IsAt squares r.number o → Among (take (i + 1) queries) r → (r.number ≡ q.number → ⊥) → IsLocated m o.x o.y
+        (get_or new r.number None)
     other r o s j ne =
         let P : List Query → Type 0 = λ t. Among t r in
         let kept : get_or (set old q.number v) r.number None ≡ get_or old r.number None = rw get_or-set_other refl in
@@ -128,7 +136,8 @@ asked_more m squares queries i q p begun begun' runs runs' old new v asked at ro
           | inr f ↦ absurd (ne (sym (ap (λ (z : Query). z.number) f)))
         ]
 
-pub all_asked : (m : List BoxShape) (squares : List Point) (queries : List Query) (i : ℕ) (begun : ℕ) (runs : BTreeMap ℤ ℕ) (found : List (Option ℕ)) → length queries ≤ i
+pub all_asked : (m : List BoxShape) (squares : List Point) (queries : List Query) (i : ℕ) (begun : ℕ) (runs : BTreeMap ℤ ℕ)
+    (found : List (Option ℕ)) → length queries ≤ i
     → AreQueries squares queries → AreAsked m squares (take i queries) (drop i queries) begun runs found → AreLocated m squares found
 all_asked m squares queries i begun runs found past all h = record {
   size = h.size;

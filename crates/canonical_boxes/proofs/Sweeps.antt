@@ -1,5 +1,6 @@
 -- What a sweep holds stays right as boxes begin, end, and are looked at.
-use Rattle.std.proofs.Common.{◌≡◌, ◌↔◌, ℕ, ◌<◌, ◌≤◌, ◌+◌, ℤ, ◌≤ℤ◌, ◌<ℤ◌, true, false, List, inl, inr, if◌then◌else◌, Option, Some, None, is_some, length, refl, sym, ◌∙◌, ap, arith, subst}
+use Rattle.std.proofs.Common.{◌≡◌, ◌↔◌, ℕ, ◌<◌, ◌≤◌, ◌+◌, ℤ, ◌≤ℤ◌, ◌<ℤ◌, true, false, List, inl, inr, if◌then◌else◌, Option, Some, None, is_some}
+use Rattle.std.proofs.Common.{length, refl, sym, ◌∙◌, ap, arith, subst}
 use Rattle.std.specs.Ordering.{int_cmp, is_eq, is_gt, is_lt}
 use Rattle.std.specs.Option.{IsSome}
 use Rattle.std.specs.declared.cmp.Ordering.{Ordering}
@@ -21,7 +22,7 @@ use Rattle.canonical_boxes.proofs.Counts.{passed_from, passed_is}
 
 -- ---- keys of a map
 
-other_key : (a q : ℤ) → (a ≡ q → ⊥) → is_at (int_cmp a) q ≡ false
+pub other_key : (a q : ℤ) → (a ≡ q → ⊥) → is_at (int_cmp a) q ≡ false
 other_key a q ne =
     let P : Ordering → Type 0 = λ o. is_eq o ≡ false in
     by_lt_z a q
@@ -62,13 +63,18 @@ module _ (m : List BoxShape) (canonical : IsCanonical m) where
       let high : (b.y1 <ℤ b.y2) = box.upward.order in
       let wide : (b.x1 <ℤ b.x2) = box.across.order in
       let wide' : (c.x1 <ℤ c.x2) = box'.across.order in
-      let under : c.y1 ≤ℤ b.y1 = elim (pair_at BeginsBefore m j n c b canonical.order p q l) [ inl k ↦ omega (arith, ints) | inr k ↦ let f : c.y1 ≡ b.y1 = k.0 in omega (arith, ints) ] in
-      elim (pair_at AreParted m j n c b canonical.parted p q l b.y1 (record { bottom = under; top = omega (arith, ints) }) (record { bottom = omega (arith, ints); top = high })) [
+      let under : c.y1 ≤ℤ b.y1 = elim (pair_at BeginsBefore m j n c b canonical.order p q l) [
+        | inl k ↦ omega (arith, ints)
+        | inr k ↦ let f : c.y1 ≡ b.y1 = k.0 in omega (arith, ints)
+      ] in
+      elim (pair_at AreParted m j n c b canonical.parted p q l b.y1 (record { bottom = under; top = omega (arith, ints) })
+      (record { bottom = omega (arith, ints); top = high })) [
         | inl z ↦ omega (arith, ints)
         | inr z ↦ omega (arith, ints)
       ]
 
-  pub held_more : (n : ℕ) (b : BoxShape) (y : ℤ) (old new : BTreeMap ℤ ℕ) → IsAt m n b → b.y1 ≤ℤ y → Sets old new b.x1 (Some n) → IsHeld m n y old → IsHeld m (n + 1) y new
+  pub held_more : (n : ℕ) (b : BoxShape) (y : ℤ) (old new : BTreeMap ℤ ℕ) → IsAt m n b → b.y1 ≤ℤ y → Sets old new b.x1 (Some n)
+      → IsHeld m n y old → IsHeld m (n + 1) y new
   held_more n b y old new at low sets h = record {
     few = let w : n < length m = at.within in omega arith;
     below = λ k c p l. by_order k n (λ z. h.below k c p z)
@@ -76,7 +82,8 @@ module _ (m : List BoxShape) (canonical : IsCanonical m) where
         let one : b ≡ c = at_one m n b c at (subst P e p) in
         let Q : BoxShape → Type 0 = λ d. d.y1 ≤ℤ y in subst Q one low)
         (λ z. absurd (omega arith));
-    held = λ x k e. by_lt_z x b.x1 (λ l. old_key x k e (λ f. omega (arith, ints))) (λ l. by_lt_z b.x1 x (λ l'. old_key x k e (λ f. omega (arith, ints))) (λ l'. new_key x k e (omega (arith, ints))));
+    held = λ x k e. by_lt_z x b.x1 (λ l. old_key x k e (λ f. omega (arith, ints)))
+        (λ l. by_lt_z b.x1 x (λ l'. old_key x k e (λ f. omega (arith, ints))) (λ l'. new_key x k e (omega (arith, ints))));
     kept = λ k c p l top. by_order k n (λ z. old_box k c p z top) (λ e. new_box k c p e) (λ z. absurd (omega arith));
   }
     where
@@ -122,12 +129,14 @@ none_past m n end y runs h all = by_order n end (λ l. omega arith) (λ e. omega
 
 -- ---- boxes end
 
-pub held_less : (m : List BoxShape) (n : ℕ) (y x : ℤ) (k : ℕ) (b : BoxShape) (old new : BTreeMap ℤ ℕ) → IsAt m k b → b.y2 ≤ℤ y → get int_cmp old x ≡ Some k
+pub held_less : (m : List BoxShape) (n : ℕ) (y x : ℤ) (k : ℕ) (b : BoxShape) (old new : BTreeMap ℤ ℕ) → IsAt m k b → b.y2 ≤ℤ y
+    → get int_cmp old x ≡ Some k
     → Sets old new x None → IsHeld m n y old → IsHeld m n y new
 held_less m n y x k b old new at ended was sets h = record {
   few = h.few;
   below = h.below;
-  held = λ q j e. by_lt_z q x (λ l. stays q j e (λ f. omega (arith, ints))) (λ l. by_lt_z x q (λ l'. stays q j e (λ f. omega (arith, ints))) (λ l'. absurd (gone q j e (omega (arith, ints)))));
+  held = λ q j e. by_lt_z q x (λ l. stays q j e (λ f. omega (arith, ints)))
+      (λ l. by_lt_z x q (λ l'. stays q j e (λ f. omega (arith, ints))) (λ l'. absurd (gone q j e (omega (arith, ints)))));
   kept = λ j c p l top. sets.others c.x1 (other_key x c.x1 (λ e. alive j c p l top e)) ∙ h.kept j c p l top;
 }
   where
@@ -155,7 +164,8 @@ held_less m n y x k b old new at ended was sets h = record {
 -- ---- boxes are looked at
 
 -- the key of the box that is found is its left edge
-pub greatest_left : (m : List BoxShape) (n : ℕ) (y x : ℤ) (k : ℕ) (b : BoxShape) (runs : BTreeMap ℤ ℕ) → IsAt m k b → IsGreatestAt runs x k → IsHeld m n y runs
+pub greatest_left : (m : List BoxShape) (n : ℕ) (y x : ℤ) (k : ℕ) (b : BoxShape) (runs : BTreeMap ℤ ℕ) → IsAt m k b → IsGreatestAt runs x k
+    → IsHeld m n y runs
     → get int_cmp runs b.x1 ≡ Some k
 greatest_left m n y x k b runs at greatest h =
     let P : ℤ → Type 0 = λ q. get int_cmp runs q ≡ Some k in
@@ -182,7 +192,8 @@ latest_found m n y x k b runs at top greatest h =
       last = λ j c p l up left. let z : (c.x1 ≤ℤ greatest.key) = greatest.last c.x1 j left (h.kept j c p l up) in omega (arith, ints);
     }
 
-pub latest_none : (m : List BoxShape) (n : ℕ) (y x : ℤ) (runs : BTreeMap ℤ ℕ) → ((q : ℤ) → q ≤ℤ x → get int_cmp runs q ≡ None) → IsHeld m n y runs → IsLatest m n x y None
+pub latest_none : (m : List BoxShape) (n : ℕ) (y x : ℤ) (runs : BTreeMap ℤ ℕ) → ((q : ℤ) → q ≤ℤ x → get int_cmp runs q ≡ None)
+    → IsHeld m n y runs → IsLatest m n x y None
 latest_none m n y x runs none h k b at l top left =
     let e : get int_cmp runs b.x1 ≡ Some k = h.kept k b at l top in
     let f : get int_cmp runs b.x1 ≡ None = none b.x1 left in
@@ -196,7 +207,12 @@ module _ (m : List BoxShape) (canonical : IsCanonical m) (n : ℕ) (y x : ℤ) (
       record {
         box = latest.box;
         at = latest.at;
-        inside = record { left = latest.left; right = subst P (sym one) right; bottom = (begun k latest.box latest.at).0 latest.before; top = latest.top };
+        inside = record {
+          left = latest.left;
+          right = subst P (sym one) right;
+          bottom = (begun k latest.box latest.at).0 latest.before;
+          top = latest.top;
+        };
       }
 
   pub past_latest : (k : ℕ) (b : BoxShape) → IsAt m k b → b.x2 ≤ℤ x → IsLatestAt m n x y k → Over m x y → ⊥
@@ -215,10 +231,11 @@ module _ (m : List BoxShape) (canonical : IsCanonical m) (n : ℕ) (y x : ℤ) (
             let R : BoxShape → Type 0 = λ d. x <ℤ d.x2 in
             let late : (x <ℤ latest.box.x2) = subst R (sym (at_one m k latest.box c.box latest.at (subst Q (sym e) j.at))) right' in
             omega (arith, ints)
-        | inr apart ↦ elim (apart y (record { bottom = (begun k latest.box latest.at).0 latest.before; top = latest.top }) (record { bottom = i.bottom; top = i.top })) [
-          | inl z ↦ omega (arith, ints)
-          | inr z ↦ omega (arith, ints)
-        ]
+        | inr apart ↦ elim (apart y (record { bottom = (begun k latest.box latest.at).0 latest.before; top = latest.top })
+            (record { bottom = i.bottom; top = i.top })) [
+              | inl z ↦ omega (arith, ints)
+              | inr z ↦ omega (arith, ints)
+            ]
       ]
 
   pub none_latest : IsLatest m n x y None → Over m x y → ⊥
@@ -237,7 +254,8 @@ greatest_at runs x bound key k e up_to value last = record {
   value = value;
   last = λ q j l g.
       let P : Option ℕ → Type 0 = λ o. IsSome o in
-      by_lt_z key q (λ z. let f : is_lt (int_cmp key q) ≡ false = last q (within q l) (subst P (sym g) refl) in absurd (grind (arith, ints))) (λ z. z);
+      by_lt_z key q (λ z. let f : is_lt (int_cmp key q) ≡ false = last q (within q l) (subst P (sym g) refl) in absurd (grind (arith, ints)))
+      (λ z. z);
 }
   where
     at_most : (q : ℤ) → is_gt (int_cmp q bound) ≡ false → q ≤ℤ x

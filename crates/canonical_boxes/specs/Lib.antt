@@ -9,3 +9,4 @@ pub mod Chosen
 pub mod Standing
 pub mod Sweeps
 pub mod Queries
+pub mod Skies

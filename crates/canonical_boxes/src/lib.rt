@@ -2,6 +2,8 @@
 #![tactic(auto)]
 
 mod canonical;
+mod combining;
+mod gaps;
 mod holding;
 pub mod laws;
 mod locating;
@@ -10,6 +12,7 @@ mod sweep;
 mod touching;
 
 pub use canonical::Canonical;
+pub use combining::{both, without};
 pub use holding::{Area, holds};
 pub use locating::locate;
 pub use rx_text::NoMemory;

@@ -21,7 +21,8 @@ next_fits m b x canonical among column =
     fits_next x (omega (arith, ints)) (omega (arith, ints))
 
 pub overflow_add-x : goal.overflow_add-x
-overflow_add-x c = rw (to_z-of_z w64 c.args.x c.ranges.x) (next_fits c.args.boxes.now c.args.b c.args.x c.requires.canonical c.requires.among c.requires.column)
+overflow_add-x c = rw (to_z-of_z w64 c.args.x c.ranges.x)
+    (next_fits c.args.boxes.now c.args.b c.args.x c.requires.canonical c.requires.among c.requires.column)
 
 pub returns-then-next-end-clause-located : goal.returns-then-next-end-clause-located
 returns-then-next-end-clause-located c =
@@ -29,7 +30,8 @@ returns-then-next-end-clause-located c =
     let fy : SFits w64 c.b.inside.y2 = search rules in
     counted_above m c.requires.canonical c.args.b c.args.x c.begun_among-next.result.0 c.begun_among-next.result.1
     (numbers_of m c.begun_among-next.result.0 c.begun_among-next.result.1 c.args.b c.b.inside.y2 c.args.x fy c.ranges.x
-    (next_fits m c.args.b c.args.x c.requires.canonical c.requires.among c.requires.column) (ap (λ (d : BoxShape). d.y2) c.b.view_is) c.begun_among-next.ensures.numbers)
+    (next_fits m c.args.b c.args.x c.requires.canonical c.requires.among c.requires.column)
+    (ap (λ (d : BoxShape). d.y2) c.b.view_is) c.begun_among-next.ensures.numbers)
     c.begun_among-next.ensures.within c.if-next-end.true
 
 pub returns-then-next-end-clause-behind : goal.returns-then-next-end-clause-behind
@@ -38,7 +40,8 @@ returns-then-next-end-clause-behind c =
     let fy : SFits w64 c.b.inside.y2 = search rules in
     counted_behind m c.requires.canonical c.args.b c.args.x c.begun_among-next.result.0 c.begun_among-next.result.1
     (numbers_of m c.begun_among-next.result.0 c.begun_among-next.result.1 c.args.b c.b.inside.y2 c.args.x fy c.ranges.x
-    (next_fits m c.args.b c.args.x c.requires.canonical c.requires.among c.requires.column) (ap (λ (d : BoxShape). d.y2) c.b.view_is) c.begun_among-next.ensures.numbers)
+    (next_fits m c.args.b c.args.x c.requires.canonical c.requires.among c.requires.column)
+    (ap (λ (d : BoxShape). d.y2) c.b.view_is) c.begun_among-next.ensures.numbers)
     c.begun_among-next.ensures.within c.if-next-end.true
 
 pub returns-else-next-end-clause-located : goal.returns-else-next-end-clause-located
@@ -47,5 +50,6 @@ returns-else-next-end-clause-located c =
     let fy : SFits w64 c.b.inside.y2 = search rules in
     counted_none m c.requires.canonical c.args.b c.args.x c.begun_among-next.result.0 c.begun_among-next.result.1
     (numbers_of m c.begun_among-next.result.0 c.begun_among-next.result.1 c.args.b c.b.inside.y2 c.args.x fy c.ranges.x
-    (next_fits m c.args.b c.args.x c.requires.canonical c.requires.among c.requires.column) (ap (λ (d : BoxShape). d.y2) c.b.view_is) c.begun_among-next.ensures.numbers)
+    (next_fits m c.args.b c.args.x c.requires.canonical c.requires.among c.requires.column)
+    (ap (λ (d : BoxShape). d.y2) c.b.view_is) c.begun_among-next.ensures.numbers)
     c.if-next-end.false c.requires.among c.requires.column

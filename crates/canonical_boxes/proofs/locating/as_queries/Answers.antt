@@ -14,4 +14,5 @@ loop-number-preserved c =
     let square : Point = get_or c.args.squares.now c.loop-number.number origin in
     let fy : SFits w64 square.y = search rules in
     query_more c.args.squares.now c.loop-number.number square c.loop-number.queries.items c.push.new.self.items
-    (at_of c.args.squares.now c.loop-number.number origin c.loop-number-test.true) (simp to_z-of_z at c.in_ok-push.ensures.items) c.loop-number.invariant
+    (at_of c.args.squares.now c.loop-number.number origin c.loop-number-test.true)
+    (simp to_z-of_z at c.in_ok-push.ensures.items) c.loop-number.invariant

@@ -17,7 +17,8 @@ use Rattle.canonical_boxes.proofs.locating.locate.Goals as goal
 pub loop-query-init : goal.loop-query-init
 loop-query-init c =
     let P : List Query → Type 0 = λ l. AreQueries c.args.squares.now l in
-    let queries : AreQueries c.args.squares.now c.deref-query-items.result.now = subst P (sym c.deref-query-items.ensures.value) c.in_ok-queries.ensures in
+    let queries : AreQueries c.args.squares.now c.deref-query-items.result.now = subst P
+    (sym c.deref-query-items.ensures.value) c.in_ok-queries.ensures in
     let Q : ℤ → List BoxShape → Type 0 = λ y m. IsHeld m c.new-sweep.result.begun y c.new-sweep.result.runs in
     record {
       asked = none_asked c.args.set.now c.args.squares.now c.deref-query-items.result.now c.new-sweep.result.begun c.new-sweep.result.runs c.in_ok-found.found.items
@@ -33,7 +34,8 @@ rise-requires-clause-held c =
     let at : IsAt items c.loop-query.query-index q = at_of items c.loop-query.query-index blank c.loop-query-test.true in
     let fy : SFits w64 q.y = search rules in
     let P : List BoxShape → Type 0 = λ m. IsHeld m c.loop-query.sweep.begun (to_z w64 (of_z w64 q.y)) c.loop-query.sweep.runs in
-    subst P (sym c.loop-query.invariant.boxes) (rw (to_z-of_z w64 q.y fy) (c.loop-query.invariant.asked.held q (at_left items c.loop-query.query-index q at)))
+    subst P (sym c.loop-query.invariant.boxes) (rw (to_z-of_z w64 q.y fy)
+    (c.loop-query.invariant.asked.held q (at_left items c.loop-query.query-index q at)))
 
 pub offset_bounds-squares-query : goal.offset_bounds-squares-query
 offset_bounds-squares-query c =
@@ -97,6 +99,7 @@ loop-query-preserved c =
 pub returns : goal.returns
 returns c =
     let P : List Query → Type 0 = λ l. AreQueries c.args.squares.now l in
-    let queries : AreQueries c.args.squares.now c.deref-query-items.result.now = subst P (sym c.deref-query-items.ensures.value) c.in_ok-queries.ensures in
+    let queries : AreQueries c.args.squares.now c.deref-query-items.result.now = subst P
+    (sym c.deref-query-items.ensures.value) c.in_ok-queries.ensures in
     all_asked c.args.set.now c.args.squares.now c.deref-query-items.result.now c.loop-query.query-index c.loop-query.sweep.begun c.loop-query.sweep.runs c.loop-query.found.items
     (omega arith) queries c.loop-query.invariant.asked

@@ -8,4 +8,5 @@ pub returns-in-Some : goal.returns-in-Some
 returns-in-Some c =
     let entry = (c.range.ensures.in_range tt).3 _ _ c.in-Some.ensures.steps in
     let last = (c.range.ensures.in_range tt).4 _ _ c.in-Some.ensures.steps in
-    greatest_at c.args.runs.now c.args.x _ c.in-Some.field-0-0.now c.in-Some.number.now (to_z-of_z w64 c.args.x c.ranges.x) entry.0.1 entry.1 (λ q u some. last q (tt, u) some)
+    greatest_at c.args.runs.now c.args.x _ c.in-Some.field-0-0.now c.in-Some.number.now (to_z-of_z w64 c.args.x c.ranges.x) entry.0.1 entry.1
+    (λ q u some. last q (tt, u) some)

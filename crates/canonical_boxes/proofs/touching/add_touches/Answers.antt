@@ -21,7 +21,8 @@ returns c =
     let fy : SFits w64 c.b.inside.y2 = search rules in
     let ff : SFits w64 c.b.inside.x1 = search rules in
     let ft : SFits w64 c.b.inside.x2 = search rules in
-    let numbers : (k : ℕ) (d : BoxShape) → IsAt c.args.boxes.now k d → ((c.begun_among-first.result.0 ≤ k) × (k < c.begun_among-first.result.1)) ↔ BeginsAmong d b.y2 b.x1 b.x2 =
+    let numbers : (k : ℕ) (d : BoxShape) → IsAt c.args.boxes.now k d →
+    ((c.begun_among-first.result.0 ≤ k) × (k < c.begun_among-first.result.1)) ↔ BeginsAmong d b.y2 b.x1 b.x2 =
     λ k d p.
     let P : BoxShape → Type 0 = λ v. ((c.begun_among-first.result.0 ≤ k) × (k < c.begun_among-first.result.1)) ↔ BeginsAmong d v.y2 v.x1 v.x2 in
     subst P c.b.view_is (simp to_z-of_z at (c.begun_among-first.ensures.numbers k d p)) in

@@ -39,4 +39,5 @@ pub returns-in-None-clause-located : goal.returns-in-None-clause-located
 returns-in-None-clause-located c =
     let fx : SFits w64 c.args.x = c.ranges.x in
     let fy : SFits w64 c.args.y = c.ranges.y in
-    none_latest c.args.self.now.boxes.now c.requires.canonical c.args.self.now.begun c.args.y c.args.x c.requires.begun (simp to_z-of_z at c.in-None.ensures.latest)
+    none_latest c.args.self.now.boxes.now c.requires.canonical c.args.self.now.begun c.args.y c.args.x c.requires.begun
+    (simp to_z-of_z at c.in-None.ensures.latest)

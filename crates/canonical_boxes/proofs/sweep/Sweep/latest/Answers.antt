@@ -21,7 +21,10 @@ returns-then-y-b-clause-latest c =
     let fb : SFits w64 c.b.inside.y2 = search rules in
     let greatest : IsGreatestAt c.loop-number.self.runs c.args.x c.in-Some.number = simp to_z-of_z at c.in-Some.ensures in
     let h = simp to_z-of_z at c.loop-number.invariant.held in
-    let at : IsAt m c.in-Some.number b = record { within = number_fits m n c.args.y c.args.x c.in-Some.number c.loop-number.self.runs greatest h; is = sym c.index-boxes-number.is } in
+    let at : IsAt m c.in-Some.number b = record {
+      within = number_fits m n c.args.y c.args.x c.in-Some.number c.loop-number.self.runs greatest h;
+      is = sym c.index-boxes-number.is;
+    } in
     latest_found m n c.args.y c.args.x c.in-Some.number b c.loop-number.self.runs at
     (less_then c.args.y c.b.inside.y2 b.y2 fy fb (ap (λ (d : BoxShape). d.y2) c.b.view_is) c.if-y-b.true) greatest h
 
@@ -34,7 +37,10 @@ loop-number-smaller c =
     let fy : SFits w64 c.args.y = c.ranges.y in
     let greatest : IsGreatestAt c.loop-number.self.runs c.args.x c.in-Some.number = simp to_z-of_z at c.in-Some.ensures in
     let h = simp to_z-of_z at c.loop-number.invariant.held in
-    let at : IsAt m c.in-Some.number b = record { within = number_fits m n c.args.y c.args.x c.in-Some.number c.loop-number.self.runs greatest h; is = sym c.index-boxes-number.is } in
+    let at : IsAt m c.in-Some.number b = record {
+      within = number_fits m n c.args.y c.args.x c.in-Some.number c.loop-number.self.runs greatest h;
+      is = sym c.index-boxes-number.is;
+    } in
     let left : c.b.inside.x1 ≡ b.x1 = ap (λ (d : BoxShape). d.x1) c.b.view_is in
     let P : ℤ → Type 0 = λ q. get int_cmp c.loop-number.self.runs q ≡ Some c.in-Some.number in
     let was : get int_cmp c.loop-number.self.runs c.b.inside.x1 ≡ Some c.in-Some.number =
@@ -51,7 +57,10 @@ loop-number-preserved c =
     let fb : SFits w64 c.b.inside.y2 = search rules in
     let greatest : IsGreatestAt c.loop-number.self.runs c.args.x c.in-Some.number = simp to_z-of_z at c.in-Some.ensures in
     let h = simp to_z-of_z at c.loop-number.invariant.held in
-    let at : IsAt m c.in-Some.number b = record { within = number_fits m n c.args.y c.args.x c.in-Some.number c.loop-number.self.runs greatest h; is = sym c.index-boxes-number.is } in
+    let at : IsAt m c.in-Some.number b = record {
+      within = number_fits m n c.args.y c.args.x c.in-Some.number c.loop-number.self.runs greatest h;
+      is = sym c.index-boxes-number.is;
+    } in
     let left : c.b.inside.x1 ≡ b.x1 = ap (λ (d : BoxShape). d.x1) c.b.view_is in
     let P : ℤ → Type 0 = λ q. Sets c.loop-number.self.runs c.remove.new.self q None in
     let u = c.remove.ensures.updates in

@@ -29,7 +29,8 @@ loop-number-preserved c =
     let sets : Sets c.loop-number.self.runs c.insert.new.self b.x1 (Some n) = subst P left (record { at = u.1; others = u.2 }) in
     let h = simp to_z-of_z at c.loop-number.invariant.held in
     record {
-      held = rw (to_z-of_z w64 c.args.y c.ranges.y) (held_more m c.requires.canonical n b c.args.y c.loop-number.self.runs c.insert.new.self at ((all n b at).0 more) sets h);
+      held = rw (to_z-of_z w64 c.args.y c.ranges.y) (held_more m c.requires.canonical n b c.args.y c.loop-number.self.runs c.insert.new.self at
+          ((all n b at).0 more) sets h);
       boxes = c.loop-number.invariant.boxes;
     }
 
