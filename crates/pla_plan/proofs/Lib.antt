@@ -17,3 +17,4 @@ pub mod PlanesModules
 pub mod RowChips
 pub mod RowTilings
 pub mod ChipRows
+pub mod RowKinds

@@ -1,11 +1,11 @@
 -- Chips that draw a plan row by row, with one kind for all rows of the same squares.
-use Rattle.std.specs.Prelude.{◌≡◌, ◌≢◌, ◌↔◌, ℕ, ◌+◌, ◌-◌, ◌*◌, ◌<◌, ℤ, pos, List, [], ◌∷◌, length, slice_get, Some, AllPairs}
+use Rattle.std.specs.Prelude.{◌≡◌, ◌≢◌, ◌↔◌, ℕ, ◌+◌, ◌-◌, ◌*◌, ◌<◌, ℤ, pos, ◌≤ℤ◌, List, [], ◌∷◌, length, slice_get, Some, All, AllPairs}
 use Rattle.geom.specs.declared.layer.Layer.{Layer}
 use Rattle.geom.specs.declared.chip.Call.{Call}
 use Rattle.geom.specs.Squares.{BoxShape, Covered}
 use Rattle.geom.specs.Chips.{ChipShape, ChipCovers}
 use Rattle.geom.specs.Merged.{InRuns}
-use Rattle.stick_grid.specs.Plans.{Plan, Covers}
+use Rattle.stick_grid.specs.Plans.{Plan, IsPlan, Covers}
 
 -- the row alone, as a plan
 abbrev pub row_plan : Plan → ℕ → Plan
@@ -39,3 +39,10 @@ pub record IsRowChip (plan : Plan) (chip : ChipShape) : Type 0 where
 -- Such a chip has the squares of the plan.
 abbrev pub RowChipsCoverPlans : Type 0
 RowChipsCoverPlans = (plan : Plan) (chip : ChipShape) → IsRowChip plan chip → (layer : Layer) (x y : ℤ) → ChipCovers chip layer x y ↔ Covers plan layer x y
+
+-- Each box of each kind lies between y = 0 and y = 14, the height of a row.
+abbrev pub KindsAreRows : ChipShape → Type 0
+KindsAreRows chip = All (All (λ b. (pos 0 ≤ℤ b.y1) × (b.y2 ≤ℤ pos 14))) chip.kinds
+
+abbrev pub RowChipsHaveRows : Type 0
+RowChipsHaveRows = (plan : Plan) (chip : ChipShape) → IsPlan plan → IsRowChip plan chip → KindsAreRows chip

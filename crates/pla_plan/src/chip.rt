@@ -5,10 +5,10 @@ ghost use Rattle.geom.specs.declared.layer.Layer.{Layer};
 ghost use Rattle.geom.specs.Chips.{ChipCovers};
 ghost use Rattle.stick_grid.specs.Plans.{Covers};
 ghost use Rattle.pla_plan.specs.Planes.{planes_plan};
-ghost use Rattle.pla_plan.specs.RowChips.{DrawsRow, IsRowChip};
+ghost use Rattle.pla_plan.specs.RowChips.{DrawsRow, IsRowChip, KindsAreRows};
 ghost use Rattle.pla_plan.specs.Numbered.{IsNumbered};
 
-use crate::laws::{planes_are_plans, row_chips_cover_plans};
+use crate::laws::{planes_are_plans, row_chips_cover_plans, row_chips_have_rows};
 use crate::pla::Pla;
 use geom::{Box2, Call, Chip, Kind, Label, merge_runs};
 use micro_tiles::TILE_SIDE;
@@ -27,9 +27,12 @@ impl Pla {
     pub fn chip(&self, alloc: Global, labels: Vec<Label>) -> Result<Chip, NoMemory>
         ensures rows { IfOk result (λ chip. IsRowChip (planes_plan self.now) chip) }
         ensures squares { IfOk result (λ chip. (layer : Layer) (x y : ℤ) → ChipCovers chip layer x y ↔ Covers (planes_plan self.now) layer x y) }
+        ensures within { IfOk result (λ chip. KindsAreRows chip) }
         ensures labels { IfOk result (λ chip. chip.labels ≡ labels.items) }
     {
+        planes_are_plans();
         row_chips_cover_plans();
+        row_chips_have_rows();
         let rows = self.rows();
         let mut kinds = Vec::new(alloc);
         let mut calls = Vec::new(alloc);

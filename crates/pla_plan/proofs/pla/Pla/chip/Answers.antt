@@ -29,3 +29,11 @@ returns-clause-squares c =
     c.row_chips_cover_plans.ensures (planes_plan c.args.self.now) c.new.result
     (subst (IsRowChip (planes_plan c.args.self.now)) (sym c.new.ensures)
     (whole_chip (planes_plan c.args.self.now) c.loop-row.kinds.items c.loop-row.calls.items c.args.labels.items c.loop-row.row last c.loop-row.invariant))
+
+pub returns-clause-within : goal.returns-clause-within
+returns-clause-within c =
+    let planes = c.args.self.now in
+    let last : c.loop-row.row ≡ planes.rows = omega (arith, c.rows-rows.ensures.number) in
+    c.row_chips_have_rows.ensures (planes_plan planes) c.new.result (c.planes_are_plans.ensures planes c.rows-rows.ensures.array)
+    (subst (IsRowChip (planes_plan planes)) (sym c.new.ensures)
+    (whole_chip (planes_plan planes) c.loop-row.kinds.items c.loop-row.calls.items c.args.labels.items c.loop-row.row last c.loop-row.invariant))
