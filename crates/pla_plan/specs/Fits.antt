@@ -15,8 +15,8 @@ pub record IsPlaneGate (from to : ℕ) (gate : NorGate) : Type 0 where
 abbrev pub no_gate : NorGate
 no_gate = record { out = 0; inputs = [] }
 
--- The part fits below the planes, with a column at least behind them. The left nets have every second column, and the output of each sum has the third of its eight
--- columns. There are at most 2^20 rows and columns.
+-- The part fits below the planes, with a column at least behind them. The left nets have every second column, and the output of each
+-- sum has the third of its eight columns. There are at most 2^20 rows and columns.
 pub record IsArray (planes : PlaneTables) : Type 0 where
   pub few_rows : planes.rows ≤ 2 ^ 20
   pub few_cols : planes.cols ≤ 2 ^ 20

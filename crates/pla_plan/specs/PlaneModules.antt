@@ -19,7 +19,9 @@ abbrev pub loaded_gate : ℕ → NorGate → List Device
 loaded_gate gnd gate = Load (at gate.out) ∷ pull_downs gnd gate
 
 abbrev pub planes_devices : PlaneTables → List Device
-planes_devices planes = flat_map (loaded_gate planes.part.gnd) planes.terms ++ flat_map (loaded_gate planes.part.gnd) planes.sums ++ part_devices planes.part
+planes_devices planes =
+    flat_map (loaded_gate planes.part.gnd) planes.terms ++ flat_map (loaded_gate planes.part.gnd) planes.sums
+    ++ part_devices planes.part
 
 -- Each net of the part leads out in poly, to the south in its column; nothing else does.
 abbrev pub planes_border : List ℕ → Border
@@ -29,7 +31,8 @@ planes_border at _ _ _ = None
 -- By these names of its nets the plan is a module of the part's nets and those of the terms.
 pub record IsArrayModule (planes : PlaneTables) : Type 0 where
   pub name : Piece → ℕ
-  pub is_module : IsModule (planes_plan planes) (planes.part.nets + length planes.terms) name planes.part.vdd (planes_devices planes) (planes_border planes.at)
+  pub is_module : IsModule (planes_plan planes) (planes.part.nets + length planes.terms) name planes.part.vdd (planes_devices planes)
+      (planes_border planes.at)
 
 -- The tiles of an array make its network: each term and each sum is a gate with its load, and the part has its nets, its devices and
 -- its ports.

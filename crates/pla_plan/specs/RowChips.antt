@@ -38,7 +38,8 @@ pub record IsRowChip (plan : Plan) (chip : ChipShape) : Type 0 where
 
 -- Such a chip has the squares of the plan.
 abbrev pub RowChipsCoverPlans : Type 0
-RowChipsCoverPlans = (plan : Plan) (chip : ChipShape) → IsRowChip plan chip → (layer : Layer) (x y : ℤ) → ChipCovers chip layer x y ↔ Covers plan layer x y
+RowChipsCoverPlans = (plan : Plan) (chip : ChipShape) → IsRowChip plan chip
+    → (layer : Layer) (x y : ℤ) → ChipCovers chip layer x y ↔ Covers plan layer x y
 
 -- Each box of each kind lies between y = 0 and y = 14, the height of a row.
 abbrev pub KindsAreRows : ChipShape → Type 0
