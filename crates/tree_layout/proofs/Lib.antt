@@ -11,4 +11,5 @@ mod Steps
 mod Numbering
 mod Ordered
 mod Counting
+mod AllNodes
 mod Whole

@@ -1,13 +1,14 @@
 -- The entries of a tree are ordered, and its layout is a square for them.
-use Rattle.std.proofs.Common.{◌≡◌, ◌∙◌, ◌⊎◌, ℕ, ◌+◌, ◌*◌, ◌^◌, ◌<◌, ◌≤◌, Bool, not, Some, length, slice_index, count_by, sum_by, Result, Ok, Err, IfOk, ap, inl, inr, arith}
+use Rattle.std.proofs.Common.{◌≡◌, ◌∙◌, ◌⊎◌, ℕ, ◌+◌, ◌*◌, ◌^◌, ◌<◌, ◌≤◌, Bool, not, ◌==◌, Some, length, map, slice_index, count_by, sum_by, Result, Ok, Err, IfOk, ap, inl, inr, arith}
 use Rattle.std.specs.List.{range_with_len}
 use Rattle.std.proofs.lemmas.Bool.{cases_lt}
 use Rattle.std.proofs.Math.Nat.{pow-le-pow_right}
 use Rattle.rx_lang.specs.Squares.{IsLevel, side_bound}
 use Rattle.star_normal.specs.Tables.{TreeTable}
-use Rattle.light_order.specs.Order.{child_of, light_first}
+use Rattle.light_order.specs.Order.{child_of, frame, light_first}
 use Rattle.light_order.specs.Crossings.{number_of, crossings, light_crossings}
 use Rattle.block_grid.specs.Sheets.{Sheet}
+use Rattle.channel_route.specs.Drawing.{name_of}
 use Rattle.tree_layout.specs.declared.links.Link.{Link}
 use Rattle.tree_layout.specs.Numbered.{entries_of}
 use Rattle.tree_layout.specs.Squares.{links_out, square}
@@ -17,6 +18,8 @@ use Rattle.tree_layout.proofs.Numbering.{OrderLaws}
 use Rattle.tree_layout.proofs.Ordered.{long, once, behind, parents}
 use Rattle.tree_layout.proofs.Counting.{few_cross, light_cross, none_out}
 use Rattle.tree_layout.proofs.Sides.{DrawingLaws, few_rows, few_cols}
+use Rattle.tree_layout.proofs.Joined.{square_names}
+use Rattle.tree_layout.proofs.AllNodes.{all_names}
 
 -- what is known of the order
 pub record TreeLaws (table : TreeTable) : Type 0 where
@@ -57,6 +60,12 @@ module _ (table : TreeTable) (l : TreeLaws table) where
   squares (Err x) level p e = e
 
   module _ (d : DrawingLaws) where
+    pub nodes : {E : Type 0} (r : Result Sheet E) (level : ℕ) → IsLevel (length table.nodes + 1) level → IfOk r (λ b. b ≡ square (entries_of table) level 0)
+        → IfOk r (λ b. map name_of b.nodes ≡ map (λ v. (v, v == frame table)) (light_first table))
+    nodes (Ok b) level p e = ap (λ (s : Sheet). map name_of s.nodes) e ∙ square_names d (entries_of table) level 0
+        ∙ all_names table (4 ^ level) (l.order.once (frame table) (omega arith)) (omega (arith, l.order.size, p.enough))
+    nodes (Err x) level p e = e
+
     pub rows : {E : Type 0} (r : Result Sheet E) (level : ℕ) → IsLevel (length table.nodes + 1) level → IfOk r (λ b. b ≡ square (entries_of table) level 0)
         → IfOk r (λ b. (k : ℕ) → IsLevel (length table.nodes + 1) k → b.rows ≤ side_bound k)
     rows (Ok b) level p e = λ k q. let f : b ≡ square (entries_of table) k 0 = e ∙ ap (λ n. square (entries_of table) n 0) (level_same _ level k p q) in

@@ -1,7 +1,9 @@
 // The layout of a tree.
 
-ghost use Rattle.std.specs.Prelude.{ℕ, ◌≡◌, ◌+◌, ◌≤◌, IfOk, length};
+ghost use Rattle.std.specs.Prelude.{ℕ, ◌≡◌, ◌+◌, ◌≤◌, ◌==◌, IfOk, length, map};
 ghost use Rattle.rx_lang.specs.Squares.{IsLevel, side_bound};
+ghost use Rattle.light_order.specs.Order.{frame, light_first};
+ghost use Rattle.channel_route.specs.Drawing.{name_of};
 ghost use Rattle.tree_layout.specs.Numbered.{entries_of};
 ghost use Rattle.tree_layout.specs.Squares.{square};
 
@@ -24,6 +26,7 @@ use std::alloc::Global;
 /// `NoMemory` where an allocation was refused.
 pub fn layout(alloc: Global, tree: &Tree) -> Result<Blocks, NoMemory>
     ensures squares { IfOk result (λ blocks. (k : ℕ) → IsLevel (length tree.now.nodes + 1) k → blocks ≡ square (entries_of tree.now) k 0) }
+    ensures nodes { IfOk result (λ blocks. map name_of blocks.nodes ≡ map (λ v. (v, v == frame tree.now)) (light_first tree.now)) }
     ensures rows { IfOk result (λ blocks. (k : ℕ) → IsLevel (length tree.now.nodes + 1) k → blocks.rows ≤ side_bound k) }
     ensures cols { IfOk result (λ blocks. (k : ℕ) → IsLevel (length tree.now.nodes + 1) k → blocks.cols ≤ side_bound k) }
 {
