@@ -12,4 +12,7 @@ mod Numbering
 mod Ordered
 mod Counting
 mod AllNodes
+mod Permuted
+mod AllEdges
+mod TreeEdges
 mod Whole

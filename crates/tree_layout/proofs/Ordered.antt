@@ -88,7 +88,7 @@ module _ (table : TreeTable) (laws : OrderLaws table) (numbers : (i : ℕ) → i
       let same : get_or order i 0 ≡ get_or order k 0 = sym (node_is i wi) ∙ e ∙ node_is k wk in
       same_some i k (number_of order (get_or order i 0)) (numbers i wi) (ap (number_of order) same ∙ numbers k wk)
 
-  stands : (w c : ℕ) → number_of order w ≡ Some c → get_or order c 0 ≡ w
+  pub stands : (w c : ℕ) → number_of order w ≡ Some c → get_or order c 0 ≡ w
   stands w c e = eqb-true _ _ (position-Some (λ x. x == w) order c 0 e).1
 
   pub parents : (h k : Bool) (i j c : ℕ) → child_at (entries_of table) h i ≡ Some c → child_at (entries_of table) k j ≡ Some c → (i ≡ j) × (h ≡ k)

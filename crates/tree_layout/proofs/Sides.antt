@@ -36,7 +36,7 @@ names_moved : (h : BlockPlace → BlockPlace) (ns : List Standing) → map name_
 names_moved h [] = refl
 names_moved h (n ∷ ns) = ap (λ xs. name_of n ∷ xs) (names_moved h ns)
 
-range_split : (a m n : ℕ) → range_with_len a (m + n) ≡ range_with_len a m ++ range_with_len (a + m) n
+pub range_split : (a m n : ℕ) → range_with_len a (m + n) ≡ range_with_len a m ++ range_with_len (a + m) n
 range_split a zero n = let e : 0 + n ≡ n = omega arith in let f : a ≡ a + 0 = omega arith in ap (range_with_len a) e ∙ ap (λ x. range_with_len x n) f
 range_split a (suc m) n =
     let e : suc m + n ≡ suc (m + n) = omega arith in

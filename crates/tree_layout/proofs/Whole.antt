@@ -1,16 +1,16 @@
 -- The entries of a tree are ordered, and its layout is a square for them.
-use Rattle.std.proofs.Common.{◌≡◌, ◌∙◌, ◌⊎◌, ℕ, ◌+◌, ◌*◌, ◌^◌, ◌<◌, ◌≤◌, Bool, not, ◌==◌, Some, length, map, slice_index, count_by, sum_by, Result, Ok, Err, IfOk, ap, inl, inr, arith}
+use Rattle.std.proofs.Common.{◌≡◌, ◌∙◌, ◌⊎◌, ℕ, ◌+◌, ◌*◌, ◌^◌, ◌<◌, ◌≤◌, Bool, not, ◌==◌, Some, length, map, slice_index, count_by, sum_by, Result, Ok, Err, IfOk, IsPermutation, sym, subst, ap, inl, inr, arith}
 use Rattle.std.specs.List.{range_with_len}
 use Rattle.std.proofs.lemmas.Bool.{cases_lt}
 use Rattle.std.proofs.Math.Nat.{pow-le-pow_right}
 use Rattle.rx_lang.specs.Squares.{IsLevel, side_bound}
 use Rattle.star_normal.specs.Tables.{TreeTable}
 use Rattle.light_order.specs.Order.{child_of, frame, light_first}
-use Rattle.light_order.specs.Crossings.{number_of, crossings, light_crossings}
+use Rattle.light_order.specs.Crossings.{number_of, crossings, light_crossings, tree_edges}
 use Rattle.block_grid.specs.Sheets.{Sheet}
-use Rattle.channel_route.specs.Drawing.{name_of}
+use Rattle.channel_route.specs.Drawing.{ends_of, name_of}
 use Rattle.tree_layout.specs.declared.links.Link.{Link}
-use Rattle.tree_layout.specs.Numbered.{entries_of}
+use Rattle.tree_layout.specs.Numbered.{ends_in_tree, entries_of}
 use Rattle.tree_layout.specs.Squares.{links_out, square}
 use Rattle.tree_layout.specs.Drawing.{IsOrdered}
 use Rattle.tree_layout.proofs.Recurrence.{most_is}
@@ -18,7 +18,8 @@ use Rattle.tree_layout.proofs.Numbering.{OrderLaws}
 use Rattle.tree_layout.proofs.Ordered.{long, once, behind, parents}
 use Rattle.tree_layout.proofs.Counting.{few_cross, light_cross, none_out}
 use Rattle.tree_layout.proofs.Sides.{DrawingLaws, few_rows, few_cols}
-use Rattle.tree_layout.proofs.Joined.{square_names}
+use Rattle.tree_layout.proofs.Joined.{square_names, square_ends}
+use Rattle.tree_layout.proofs.TreeEdges.{edges_once}
 use Rattle.tree_layout.proofs.AllNodes.{all_names}
 
 -- what is known of the order
@@ -65,6 +66,13 @@ module _ (table : TreeTable) (l : TreeLaws table) where
     nodes (Ok b) level p e = ap (λ (s : Sheet). map name_of s.nodes) e ∙ square_names d (entries_of table) level 0
         ∙ all_names table (4 ^ level) (l.order.once (frame table) (omega arith)) (omega (arith, l.order.size, p.enough))
     nodes (Err x) level p e = e
+
+    pub edges : {E : Type 0} (r : Result Sheet E) (level : ℕ) → IsLevel (length table.nodes + 1) level → IfOk r (λ b. b ≡ square (entries_of table) level 0)
+        → IfOk r (λ b. IsPermutation (map ends_in_tree (tree_edges table)) (map ends_of b.edges))
+    edges (Ok b) level p e =
+        subst (IsPermutation (map ends_in_tree (tree_edges table))) (sym (ap (λ (s : Sheet). map ends_of s.edges) e ∙ square_ends d (entries_of table) level 0))
+        (edges_once table l.order l.numbers l.one level p.enough l.sums)
+    edges (Err x) level p e = e
 
     pub rows : {E : Type 0} (r : Result Sheet E) (level : ℕ) → IsLevel (length table.nodes + 1) level → IfOk r (λ b. b ≡ square (entries_of table) level 0)
         → IfOk r (λ b. (k : ℕ) → IsLevel (length table.nodes + 1) k → b.rows ≤ side_bound k)

@@ -3,7 +3,7 @@ use Rattle.std.specs.Prelude.{ℕ, Bool, true, false, Option, List, map, slice_g
 use Rattle.std.specs.Option.{option_and_then, option_map_or}
 use Rattle.star_normal.specs.Tables.{TreeTable}
 use Rattle.light_order.specs.Order.{child_of, light_first}
-use Rattle.light_order.specs.Crossings.{number_of}
+use Rattle.light_order.specs.Crossings.{TreeEdge, number_of}
 use Rattle.tree_layout.specs.declared.numbered.Entry.{Entry}
 
 -- a node and the numbers of its children
@@ -16,6 +16,10 @@ entry_of table v = record {
 
 abbrev pub entries_of : TreeTable → List Entry
 entries_of table = map (entry_of table) (light_first table)
+
+-- an edge of the tree by its nodes, and whether it goes to a heavy child
+abbrev pub ends_in_tree : TreeEdge → ℕ × ℕ × Bool
+ends_in_tree e = (e.parent, e.child, e.heavy)
 
 -- the node with a number, and the number of its child in a role
 
