@@ -2,11 +2,12 @@
 #![tactic(auto)]
 
 pub mod laws;
-pub mod levels;
-pub mod links;
-pub mod numbered;
-pub mod squares;
-pub mod trees;
+mod levels;
+mod links;
+mod numbered;
+mod squares;
+mod trees;
 
+pub use numbered::Entry;
 pub use rx_text::NoMemory;
 pub use trees::layout;
