@@ -4,6 +4,7 @@ use Rattle.std.proofs.lemmas.Int.{ints, by_lt_z}
 use Rattle.geom.specs.Squares.{BoxShape, Inside}
 use Rattle.geom.specs.Rows.{Over}
 use Rattle.canonical_boxes.specs.Skies.{InPlane}
+use Rattle.canonical_boxes.proofs.Skies.{over_left}
 
 -- a box has a square or not
 inside_or_not : (b : BoxShape) (x y : ℤ) → Inside b x y ⊎ (Inside b x y → ⊥)
@@ -21,11 +22,6 @@ over_or_not (b ∷ bs) x y = elim (inside_or_not b x y) [
   | inl i ↦ inl (inl i)
   | inr out ↦ elim (over_or_not bs x y) [ inl h ↦ inl (inr h) | inr none ↦ inr (λ k. elim k [ inl i ↦ out i | inr h ↦ none h ]) ]
 ]
-
-over_left : (m n : List BoxShape) (x y : ℤ) → Over m x y → Over (m ++ n) x y
-over_left [] n x y h = absurd h
-over_left (c ∷ cs) n x y (inl h) = inl h
-over_left (c ∷ cs) n x y (inr h) = inr (over_left cs n x y h)
 
 over_right : (m n : List BoxShape) (x y : ℤ) → Over n x y → Over (m ++ n) x y
 over_right [] n x y h = h

@@ -4,7 +4,7 @@ use Rattle.std.proofs.Common.{Option, Some, None, refl, sym, ◌∙◌, arith, s
 use Rattle.std.specs.Int.{int_max}
 use Rattle.std.specs.Ordering.{int_cmp, is_gt, is_lt}
 use Rattle.std.specs.Option.{IsSome}
-use Rattle.std.specs.BTreeMap.{BTreeMap, get, is_at}
+use Rattle.std.specs.BTreeMap.{BTreeMap, get}
 use Rattle.std.proofs.lemmas.Int.{ints, clamps, by_lt_z}
 use lib.Signed.{lt_z}
 use mir.Syntax.{w64}
@@ -13,7 +13,7 @@ use Rattle.geom.specs.Squares.{BoxShape, Inside}
 use Rattle.geom.specs.Rows.{Over}
 use Rattle.geom.specs.declared.layer.Layer.{Layer}
 use Rattle.canonical_boxes.specs.Skies.{IsSky, IsStepAt, HasHeight, AddsRectangle, IsBetween, AddsBelow, IsCleared, IsSplit, IsRaised}
-use Rattle.canonical_boxes.proofs.Sweeps.{other_key}
+use Rattle.canonical_boxes.proofs.Sweeps.{Sets, other_key}
 
 -- ---- steps
 
@@ -56,7 +56,7 @@ over_push [] b x y (inr h) = absurd h
 over_push (c ∷ cs) b x y (inl i) = inl (inl i)
 over_push (c ∷ cs) b x y (inr h) = elim (over_push cs b x y h) [ inl k ↦ inl (inr k) | inr k ↦ inr k ]
 
-over_left : (m n : List BoxShape) (x y : ℤ) → Over m x y → Over (m ++ n) x y
+pub over_left : (m n : List BoxShape) (x y : ℤ) → Over m x y → Over (m ++ n) x y
 over_left [] n x y h = absurd h
 over_left (c ∷ cs) n x y (inl h) = inl h
 over_left (c ∷ cs) n x y (inr h) = inr (over_left cs n x y h)
@@ -208,12 +208,7 @@ pub record IsClearing (from to : ℤ) (old now : BTreeMap ℤ ℤ) : Type 0 wher
 pub none_cleared : (from to : ℤ) (old : BTreeMap ℤ ℤ) → IsClearing from to old old
 none_cleared from to old = record { others = λ q s. refl; kept = λ q h e. e }
 
--- The key has the value, and the others have what they had.
-pub record Puts (old new : BTreeMap ℤ ℤ) (key : ℤ) (value : Option ℤ) : Type 0 where
-  pub at : get int_cmp new key ≡ value
-  pub others : (q : ℤ) → is_at (int_cmp key) q ≡ false → get int_cmp new q ≡ get int_cmp old q
-
-pub one_cleared : (from to key : ℤ) (old now new : BTreeMap ℤ ℤ) → from <ℤ key → key <ℤ to → Puts now new key None → IsClearing from to old now
+pub one_cleared : (from to key : ℤ) (old now new : BTreeMap ℤ ℤ) → from <ℤ key → key <ℤ to → Sets now new key None → IsClearing from to old now
     → IsClearing from to old new
 one_cleared from to key old now new l r puts c = record {
   others = λ q s. puts.others q (other_key key q (λ e. elim s [ inl z ↦ omega (arith, ints) | inr z ↦ omega (arith, ints) ])) ∙ c.others q s;
@@ -284,7 +279,7 @@ split_sky to old mid low high sky s =
 
 module _ (from to height : ℤ) (old mid cleared new : BTreeMap ℤ ℤ) (low : neg_ℤ (pos (2 ^ 40)) ≤ℤ from) (order : from <ℤ to)
     (high : to ≤ℤ pos (2 ^ 40))
-    (sky : IsSky old) (s : IsSplit to old mid) (c : IsCleared from to mid cleared) (puts : Puts cleared new from (Some height)) where
+    (sky : IsSky old) (s : IsSplit to old mid) (c : IsCleared from to mid cleared) (puts : Sets cleared new from (Some height)) where
   -- a key of the raised steps
   apart : (q : ℤ) → (from ≡ q → ⊥) → get int_cmp new q ≡ get int_cmp cleared q
   apart q ne = puts.others q (other_key from q ne)

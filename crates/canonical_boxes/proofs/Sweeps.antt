@@ -32,7 +32,7 @@ other_key a q ne =
     (λ k. absurd (ne (omega (arith, ints)))))
 
 -- The key has the value, and the others have what they had.
-pub record Sets (old new : BTreeMap ℤ ℕ) (key : ℤ) (value : Option ℕ) : Type 0 where
+pub record Sets {V : Type 0} (old new : BTreeMap ℤ V) (key : ℤ) (value : Option V) : Type 0 where
   pub at : get int_cmp new key ≡ value
   pub others : (q : ℤ) → is_at (int_cmp key) q ≡ false → get int_cmp new q ≡ get int_cmp old q
 

@@ -5,7 +5,8 @@ use mir.Val.{SFits}
 use mir.Syntax.{w64}
 use Rattle.canonical_boxes.specs.Skies.{IsStepAt}
 use Rattle.canonical_boxes.proofs.Climbs.{at_most_then, at_most_not}
-use Rattle.canonical_boxes.proofs.Skies.{Puts, one_cleared, clearing_sky, all_cleared, none_left, fits_plane}
+use Rattle.canonical_boxes.proofs.Sweeps.{Sets}
+use Rattle.canonical_boxes.proofs.Skies.{one_cleared, clearing_sky, all_cleared, none_left, fits_plane}
 use Rattle.canonical_boxes.proofs.gaps.clear.Goals as goal
 
 -- the column before the last is within reach
@@ -28,7 +29,7 @@ loop-step-preserved c =
     let behind : c.args.from <ℤ c.in-Some.step.from = at_most_not c.in-Some.step.from c.args.from c.args.from fs ff refl c.if-step-from.false in
     let up : c.in-Some.step.from ≤ℤ (c.args.to -ℤ pos 1) = step.up_to in
     let u = c.remove.ensures.updates in
-    let puts : Puts c.loop-step.tops c.remove.new.self c.in-Some.step.from None = record { at = u.1; others = u.2 } in
+    let puts : Sets c.loop-step.tops c.remove.new.self c.in-Some.step.from None = record { at = u.1; others = u.2 } in
     rw (to_z-of_z w64 c.args.from ff, to_z-of_z w64 c.args.to ft)
     (one_cleared c.args.from c.args.to c.in-Some.step.from c.args.tops.now c.loop-step.tops c.remove.new.self behind (omega (arith, ints)) puts
     (simp to_z-of_z at c.loop-step.invariant))

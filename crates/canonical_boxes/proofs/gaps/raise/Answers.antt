@@ -4,7 +4,8 @@ use Rattle.std.proofs.lemmas.Int.{ints, to_z-of_z}
 use mir.Val.{SFits}
 use mir.Syntax.{w64}
 use Rattle.canonical_boxes.specs.Skies.{IsSplit, IsCleared}
-use Rattle.canonical_boxes.proofs.Skies.{Puts, split_sky, raised_all}
+use Rattle.canonical_boxes.proofs.Sweeps.{Sets}
+use Rattle.canonical_boxes.proofs.Skies.{split_sky, raised_all}
 use Rattle.canonical_boxes.proofs.gaps.raise.Goals as goal
 
 pub clear-requires-clause-sky : goal.clear-requires-clause-sky
@@ -23,6 +24,6 @@ returns c =
     let split : IsSplit c.args.to c.args.tops.now c.split.new.tops = simp to_z-of_z at c.in_ok-split.ensures in
     let cleared : IsCleared c.args.from c.args.to c.split.new.tops c.clear.new.tops = simp to_z-of_z at c.clear.ensures in
     let u = simp to_z-of_z at c.in_ok-insert.ensures.updates in
-    let puts : Puts c.clear.new.tops c.insert.new.self c.args.from (Some c.args.height) = record { at = u.1; others = u.2 } in
+    let puts : Sets c.clear.new.tops c.insert.new.self c.args.from (Some c.args.height) = record { at = u.1; others = u.2 } in
     raised_all c.args.from c.args.to c.args.height c.args.tops.now c.split.new.tops c.clear.new.tops c.insert.new.self c.requires.first c.requires.order c.requires.last
     c.requires.sky split cleared puts c.requires.bottom c.requires.top
