@@ -14,7 +14,7 @@ use Rattle.switch_net.specs.TernaryLogic.{ToldNetsSettle}
 use Rattle.switch_net.specs.Validity.{is_same_role}
 use Rattle.nor_net.specs.Netlist.{NorGate, Netlist, IsTransfer, IsOrder, IsNetlist}
 use Rattle.nor_net.specs.Evaluation.{is_output, is_high, transfer_to, phase}
-use Rattle.nor_net.specs.Clearing.{is_cleared, is_target, follows_store, is_driven, ClearsByReset}
+use Rattle.nor_net.specs.Clearing.{is_cleared, is_target, follows_store, is_driven, is_known_in, IsKnownByReset}
 use Rattle.nor_net.specs.SwitchForm.{switch_form}
 use Rattle.nor_net.specs.declared.gate.Transfer.{Transfer}
 use Rattle.nor_net.proofs.Pads.{role_on, first_fixed, drives_sized, same_role}
@@ -67,17 +67,21 @@ all_pass : {X : Type 0} (test : X → Bool) (xs : List X) → list_all test xs �
 all_pass test [] e = tt
 all_pass test (x ∷ xs) e = let parts = and_parts (test x) (list_all test xs) e in (parts.0, all_pass test xs parts.1)
 
-module _ (settles_as : SettlesAsLogic) (told : ToldNetsSettle) (netlist : Netlist) (valid : IsNetlist netlist) (clearing : ClearsByReset netlist) where
+module _ (settles_as : SettlesAsLogic) (told : ToldNetsSettle) (netlist : Netlist) (valid : IsNetlist netlist) (rounds : ℕ) (clearing : IsKnownByReset netlist rounds) where
   -- the levels of the known nets are these values
   abbrev Agree : (ℕ → Bool) → Levels → Values → Type 0
   Agree known q charges = (net : ℕ) → net < netlist.nets → known net ≡ true → q net ≡ level_of (charges net)
 
   -- known once PHI1 has been high
   abbrev store_known : ℕ → Bool
-  store_known net = is_fixed netlist.pads net || (is_cleared netlist net || (is_target netlist Phi1 net || follows_store netlist net))
+  store_known net = is_known_in netlist rounds net || (is_target netlist Phi1 net || follows_store netlist net)
 
   reset_fixed : is_fixed netlist.pads (reset_net netlist valid) ≡ true
   reset_fixed = first_fixed netlist.pads _ Reset refl (role_on netlist.pads Reset (kinds.pads_own netlist valid) valid.pads.reset)
+
+  fixed_known : (n net : ℕ) → is_fixed netlist.pads net ≡ true → is_known_in netlist n net ≡ true
+  fixed_known zero net e = or_left (is_fixed netlist.pads net) (is_cleared netlist net) e
+  fixed_known (suc n) net e = or_left (is_known_in netlist n net) _ (fixed_known n net e)
 
   -- the source of a transfer is driven
   source_driven : (transfer : Transfer) → IsTransfer netlist transfer → is_driven netlist transfer.from ≡ true
@@ -136,10 +140,11 @@ module _ (settles_as : SettlesAsLogic) (told : ToldNetsSettle) (netlist : Netlis
     cleared_told known net up k e =
         inr (inl (cleared_output netlist.gates (reset_net netlist valid) net e, inl (record { reset = up; cleared = e; known_reset = k })))
 
-    -- a gate of nets that are stored while PHI1 is high
-    following_told : (known : ℕ → Bool) (net : ℕ) → ((n : ℕ) → is_target netlist Phi1 n ≡ true → known n ≡ true) → follows_store netlist net ≡ true
+    -- a gate all of whose inputs pass a test that known nets pass
+    gate_told : (known test : ℕ → Bool) (net : ℕ) → ((n : ℕ) → test n ≡ true → known n ≡ true)
+        → (is_output netlist.gates net && list_all (λ (g : NorGate). not (g.out == net) || list_all test g.inputs) netlist.gates) ≡ true
         → NetTold netlist valid told drive clock only order ordered q v charges x follows levels known net
-    following_told known net targets e =
+    gate_told known test net passes e =
         let parts = and_parts (is_output netlist.gates net) _ e in
         inr (inl (
           parts.0,
@@ -147,21 +152,31 @@ module _ (settles_as : SettlesAsLogic) (told : ToldNetsSettle) (netlist : Netlis
               (all_inputs netlist.gates (all_pass _ netlist.gates parts.1))),
         ))
       where
-        known_inputs : (inputs : List ℕ) → AllByRecursion (λ i. is_target netlist Phi1 i ≡ true) inputs → AllByRecursion (λ i. known i ≡ true) inputs
+        known_inputs : (inputs : List ℕ) → AllByRecursion (λ i. test i ≡ true) inputs → AllByRecursion (λ i. known i ≡ true) inputs
         known_inputs [] h = tt
-        known_inputs (i ∷ is) h = (targets i h.0, known_inputs is h.1)
+        known_inputs (i ∷ is) h = (passes i h.0, known_inputs is h.1)
 
-        gate_inputs : (g : NorGate) → (not (g.out == net) || list_all (is_target netlist Phi1) g.inputs) ≡ true → g.out ≡ net
-            → All (λ input. known input ≡ true) g.inputs
+        gate_inputs : (g : NorGate) → (not (g.out == net) || list_all test g.inputs) ≡ true → g.out ≡ net → All (λ input. known input ≡ true) g.inputs
         gate_inputs g h same =
             let at_net : (g.out == net) ≡ true = eq-eqb g.out net same in
-            let all : list_all (is_target netlist Phi1) g.inputs ≡ true = rw at_net at h in
-            All-from_recursion (λ i. known i ≡ true) g.inputs (known_inputs g.inputs (all_pass (is_target netlist Phi1) g.inputs all))
+            let all : list_all test g.inputs ≡ true = rw at_net at h in
+            All-from_recursion (λ i. known i ≡ true) g.inputs (known_inputs g.inputs (all_pass test g.inputs all))
 
-        all_inputs : (gates : List NorGate) → AllByRecursion (λ (g : NorGate). (not (g.out == net) || list_all (is_target netlist Phi1) g.inputs) ≡ true) gates
+        all_inputs : (gates : List NorGate) → AllByRecursion (λ (g : NorGate). (not (g.out == net) || list_all test g.inputs) ≡ true) gates
             → AllByRecursion (λ (g : NorGate). g.out ≡ net → All (λ input. known input ≡ true) g.inputs) gates
         all_inputs [] h = tt
         all_inputs (g ∷ gates) h = (gate_inputs g h.0, all_inputs gates h.1)
+
+    -- a net that is known under the reset, where all such nets are known
+    known_told : (known : ℕ → Bool) → drive.reset ≡ true → (n net : ℕ) → ((m : ℕ) → is_known_in netlist n m ≡ true → known m ≡ true)
+        → known (reset_net netlist valid) ≡ true → is_known_in netlist n net ≡ true
+        → NetTold netlist valid told drive clock only order ordered q v charges x follows levels known net
+    known_told known up zero net every reset e =
+        ⊎_elim (λ f. inl f) (λ c. cleared_told known net up reset c) (or_cases (is_fixed netlist.pads net) (is_cleared netlist net) e)
+    known_told known up (suc n) net every reset e =
+        ⊎_elim (λ before. known_told known up n net (λ m k. every m (or_left (is_known_in netlist n m) _ k)) reset before)
+        (λ later. gate_told known (is_known_in netlist n) net (λ m k. every m (or_left (is_known_in netlist n m) _ k)) later)
+        (or_cases (is_known_in netlist n net) _ e)
 
     -- what is known of a net that is stored while PHI1 is high
     abbrev TargetTold : Type 0
@@ -170,14 +185,11 @@ module _ (settles_as : SettlesAsLogic) (told : ToldNetsSettle) (netlist : Netlis
 
     store_settling : drive.reset ≡ true → TargetTold → Agree store_known v x
     store_settling up stored = settling store_known (λ net lt is.
-        ⊎_elim (λ f. inl f)
-        (λ other. ⊎_elim
-        (λ c. cleared_told store_known net up (or_left (is_fixed netlist.pads (reset_net netlist valid)) _ reset_fixed) c)
+        ⊎_elim (λ k. known_told store_known up rounds net (λ m e. or_left (is_known_in netlist rounds m) _ e) (or_left _ _ (fixed_known rounds (reset_net netlist valid) reset_fixed)) k)
         (λ more. ⊎_elim (λ t. stored net lt t)
-        (λ f. following_told store_known net (λ n e. or_right (is_fixed netlist.pads n) _ (or_right (is_cleared netlist n) _ (or_left (is_target netlist Phi1 n) _ e))) f)
+        (λ f. gate_told store_known (is_target netlist Phi1) net (λ n e. or_right (is_known_in netlist rounds n) _ (or_left (is_target netlist Phi1 n) _ e)) f)
         (or_cases (is_target netlist Phi1 net) (follows_store netlist net) more))
-        (or_cases (is_cleared netlist net) _ other))
-        (or_cases (is_fixed netlist.pads net) _ is))
+        (or_cases (is_known_in netlist rounds net) _ is))
 
     -- while PHI1 is high, the nets behind it are known by their sources
     opened_settling : drive.reset ≡ true → is_high drive Phi1 ≡ true → Agree store_known v x
@@ -186,18 +198,13 @@ module _ (settles_as : SettlesAsLogic) (told : ToldNetsSettle) (netlist : Netlis
         inr (inr (record {
           transfer = t.0;
           leads = t.1;
-          source = λ _. source_known t.0 (found (λ (tr : Transfer). tr.clock ≡ Phi1 → (tr.from ≡ reset_net netlist valid) ⊎ (is_cleared netlist tr.from ≡ true)) netlist.transfers net t.0
-              (recursion_from_All (λ (tr : Transfer). tr.clock ≡ Phi1 → (tr.from ≡ reset_net netlist valid) ⊎ (is_cleared netlist tr.from ≡ true)) netlist.transfers clearing.first) t.1).0 t.2;
+          source = λ _. source_known t.0 (found (λ (tr : Transfer). tr.clock ≡ Phi1 → is_known_in netlist rounds tr.from ≡ true) netlist.transfers net t.0
+              (recursion_from_All (λ (tr : Transfer). tr.clock ≡ Phi1 → is_known_in netlist rounds tr.from ≡ true) netlist.transfers clearing.first) t.1).0 t.2;
           charge = λ down. let f : is_high drive Phi1 ≡ false = subst (λ r. is_high drive r ≡ false) t.2 down in absurd (cc);
         })))
       where
-        by_source : (from : ℕ) → (from ≡ reset_net netlist valid) ⊎ (is_cleared netlist from ≡ true) → store_known from ≡ true
-        by_source from (inl e) = subst (λ n. store_known n ≡ true) (sym e) (or_left (is_fixed netlist.pads (reset_net netlist valid)) _ reset_fixed)
-        by_source from (inr c) = or_right (is_fixed netlist.pads from) _ (or_left (is_cleared netlist from) _ c)
-
-        source_known : (tr : Transfer) → (tr.clock ≡ Phi1 → (tr.from ≡ reset_net netlist valid) ⊎ (is_cleared netlist tr.from ≡ true)) → tr.clock ≡ Phi1
-            → store_known tr.from ≡ true
-        source_known tr h e = by_source tr.from (h e)
+        source_known : (tr : Transfer) → (tr.clock ≡ Phi1 → is_known_in netlist rounds tr.from ≡ true) → tr.clock ≡ Phi1 → store_known tr.from ≡ true
+        source_known tr h e = or_left (is_known_in netlist rounds tr.from) _ (h e)
 
     -- while it is low again, they keep their charges
     closed_settling : drive.reset ≡ true → is_high drive Phi1 ≡ false → Agree store_known q charges → Agree store_known v x
@@ -207,7 +214,7 @@ module _ (settles_as : SettlesAsLogic) (told : ToldNetsSettle) (netlist : Netlis
           transfer = t.0;
           leads = t.1;
           source = λ high. let f : is_high drive Phi1 ≡ true = subst (λ r. is_high drive r ≡ true) t.2 high in absurd (cc);
-          charge = λ down. before net lt (or_right (is_fixed netlist.pads net) _ (or_right (is_cleared netlist net) _ (or_left (is_target netlist Phi1 net) _ e)));
+          charge = λ down. before net lt (or_right (is_known_in netlist rounds net) _ (or_left (is_target netlist Phi1 net) _ e));
         })))
 
     -- while PHI2 is high for the first time, every driven net is known
@@ -222,7 +229,7 @@ module _ (settles_as : SettlesAsLogic) (told : ToldNetsSettle) (netlist : Netlis
               transfer = t.0;
               leads = t.1;
               source = λ up. source_driven t.0 (target_valid Phi1 net e);
-              charge = λ down. before net lt (or_right (is_fixed netlist.pads net) _ (or_right (is_cleared netlist net) _ (or_left (is_target netlist Phi1 net) _ e)));
+              charge = λ down. before net lt (or_right (is_known_in netlist rounds net) _ (or_left (is_target netlist Phi1 net) _ e));
             }))
 
         open_told : (net : ℕ) → net < netlist.nets → is_target netlist Phi2 net ≡ true

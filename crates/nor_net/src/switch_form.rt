@@ -1,13 +1,13 @@
 // The form of a netlist as a switch network.
 
-ghost use Rattle.std.specs.Prelude.{◌≡◌, ◌<◌, ◌^◌, ◌++◌, [], ◌∷◌, if◌then◌else◌, false, length, map, replicate, flat_map, find, IfOk, OnOk};
+ghost use Rattle.std.specs.Prelude.{◌≡◌, ℕ, List, Bool, true, ◌<◌, ◌^◌, ◌++◌, [], ◌∷◌, if◌then◌else◌, false, length, map, replicate, flat_map, find, IfOk, OnOk};
 ghost use Rattle.std.specs.List.{range_with_len};
 ghost use Rattle.rx_text.specs.declared.pad_name.Role.TheVariants.{Gnd};
 ghost use Rattle.rx_lang.specs.Specification.{Specification, Language};
 ghost use Rattle.switch_net.specs.declared.network.Device.TheVariants.{Load};
 ghost use Rattle.switch_net.specs.Validity.{is_same_role, IsNetwork};
 ghost use Rattle.switch_net.specs.Recognition.{Recognises, ShowsSurely};
-ghost use Rattle.nor_net.specs.Clearing.{ClearsByReset};
+ghost use Rattle.nor_net.specs.Clearing.{ClearsByReset, IsKnownByReset};
 ghost use Rattle.nor_net.specs.Evaluation.{is_output};
 ghost use Rattle.nor_net.specs.Recognised.{ShowsByClocks};
 ghost use Rattle.nor_net.specs.SwitchForm.{at, net_of, load_at, pull_downs, transfer_device, devices_of, switch_form, Lists, Computes};
@@ -22,7 +22,8 @@ use switch_net::{Device, Net, Network, Pad, clocked_logic_settles, told_nets_set
 /// Makes the switch network of the netlist, on the same nets: one load for each gate output, a pass device to ground for
 /// each input of a gate, and a pass device for each transfer, whose gate is the net of its clock. From all charges it has a
 /// clock, and each one leaves the values that `step` gives. So it recognises the languages that the netlist's outputs show,
-/// and where the reset clears the netlist's registers, no output is unknown in a ternary run after the reset clock.
+/// and where the reset clears the netlist's registers, or what they store is known under it by gates, no output is unknown in a ternary
+/// run after the reset clock.
 ///
 /// # Errors
 ///
@@ -33,6 +34,11 @@ pub fn to_switch(alloc: Global, net: &NorNet) -> Result<Network, NoMemory>
     ensures computes { IfOk result (λ network. Computes network net.now) }
     ensures recognises { IfOk result (λ network. (spec : Specification) → ShowsByClocks net.now (length spec.lines) (Language spec)
         → Recognises network (length spec.lines) (Language spec)) }
+    ensures known { IfOk result (λ network. (spec : Specification) → ShowsByClocks net.now (length spec.lines) (Language spec)
+        → (rounds : ℕ) → IsKnownByReset net.now rounds → ShowsSurely network (length spec.lines) (Language spec)) }
+    ensures known_values { IfOk result (λ network. (width : ℕ) (shown : ℕ → List (List Bool) → Bool)
+        → ShowsByClocks net.now width (λ y u. shown y u ≡ true)
+        → (rounds : ℕ) → IsKnownByReset net.now rounds → ShowsSurely network width (λ y u. shown y u ≡ true)) }
     ensures sure { IfOk result (λ network. (spec : Specification) → ShowsByClocks net.now (length spec.lines) (Language spec)
         → ClearsByReset net.now → ShowsSurely network (length spec.lines) (Language spec)) }
 {

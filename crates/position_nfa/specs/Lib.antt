@@ -2,6 +2,8 @@
 pub mod Automaton
 pub mod Terms
 pub mod Agreement
+pub mod Registers
+pub mod Runs
 -- Definitions that serve private contracts alone:
 pub mod LeafRows
 pub mod Summaries
