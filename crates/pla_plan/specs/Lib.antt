@@ -1,8 +1,10 @@
 -- Definitions that public contracts cite:
 pub mod Planes
 pub mod Fits
+pub mod ArrayOf
 pub mod PlaneModules
 pub mod RowChips
+pub mod ArrayNetworks
 -- Definitions that serve private contracts alone:
 pub mod Made
 pub mod Numbered

@@ -1,0 +1,41 @@
+//! What the arrays of specifications are. Each law is the contract of a function that runs nothing.
+
+ghost use Rattle.pla_plan.specs.ArrayOf.{AutomataMakeArrays};
+ghost use Rattle.pla_plan.specs.ArrayNetworks.{ArraysDrawRegisters, ArraysHaveSizes, ArraysRecognise};
+
+use crate::laws::planes_are_modules;
+use gate_matrix::laws::columns_are_of_nets;
+use stick_grid::laws::modules_stand_for_networks;
+use switch_net::{same_networks_agree, same_networks_run_alike};
+
+/// The registers of a position automaton of at most 256 positions, with their columns, make a programmable logic array, whatever
+/// the specification whose symbols it reads.
+pub fn automata_make_arrays()
+    ensures { AutomataMakeArrays }
+{}
+
+/// Its rows and columns are the formulas of the specification, by the number of its terms.
+pub fn arrays_have_sizes()
+    ensures { ArraysHaveSizes }
+{}
+
+/// The squares of this array, with a label on each pad, stand for a network that is the same as the switch network of the registers.
+pub fn arrays_draw_registers()
+    ensures { ArraysDrawRegisters }
+{
+    automata_make_arrays();
+    planes_are_modules();
+    columns_are_of_nets();
+    modules_stand_for_networks();
+    same_networks_agree();
+}
+
+/// Where the switch network of the registers has the specification's pads and recognises its languages, surely so, the squares of
+/// the array with its labels stand for a network that does.
+pub fn arrays_recognise()
+    ensures { ArraysRecognise }
+{
+    arrays_draw_registers();
+    same_networks_agree();
+    same_networks_run_alike();
+}
