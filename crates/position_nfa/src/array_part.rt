@@ -76,7 +76,8 @@ fn add_complements(
     counts: ArrayCounts,
 ) -> Result<(), NoMemory>
     requires { AreFew counts }
-    ensures { OnOk result (gates.new.items ≡ gates.old.items ++ map (λ i. inverter (complement_net counts i) (line_net counts i)) (range_with_len 0 counts.lines)) }
+    ensures { OnOk result (gates.new.items ≡ gates.old.items
+        ++ map (λ i. inverter (complement_net counts i) (line_net counts i)) (range_with_len 0 counts.lines)) }
 {
     for i in 0..counts.lines {
         add_inverter(alloc, gates, counts.complement_net(i), counts.line_net(i))?;
@@ -87,7 +88,8 @@ fn add_complements(
 /// Adds the inverter between the two stores of each position's register.
 fn add_inverses(alloc: Global, gates: &mut Vec<Gate>, counts: ArrayCounts) -> Result<(), NoMemory>
     requires { AreFew counts }
-    ensures { OnOk result (gates.new.items ≡ gates.old.items ++ map (λ i. inverter (inverse_net counts i) (master_net counts i)) (range_with_len 0 counts.positions)) }
+    ensures { OnOk result (gates.new.items ≡ gates.old.items
+        ++ map (λ i. inverter (inverse_net counts i) (master_net counts i)) (range_with_len 0 counts.positions)) }
 {
     for p in 0..counts.positions {
         add_inverter(alloc, gates, counts.inverse_net(p), counts.master_net(p))?;
@@ -98,7 +100,8 @@ fn add_inverses(alloc: Global, gates: &mut Vec<Gate>, counts: ArrayCounts) -> Re
 /// Adds the inverter behind each position's register.
 fn add_states(alloc: Global, gates: &mut Vec<Gate>, counts: ArrayCounts) -> Result<(), NoMemory>
     requires { AreFew counts }
-    ensures { OnOk result (gates.new.items ≡ gates.old.items ++ map (λ i. inverter (state_net counts i) (stored_net counts i)) (range_with_len 0 counts.positions)) }
+    ensures { OnOk result (gates.new.items ≡ gates.old.items
+        ++ map (λ i. inverter (state_net counts i) (stored_net counts i)) (range_with_len 0 counts.positions)) }
 {
     for p in 0..counts.positions {
         add_inverter(alloc, gates, counts.state_net(p), counts.stored_net(p))?;
@@ -109,7 +112,8 @@ fn add_states(alloc: Global, gates: &mut Vec<Gate>, counts: ArrayCounts) -> Resu
 /// Adds the inverter of each output.
 fn add_outputs(alloc: Global, gates: &mut Vec<Gate>, counts: ArrayCounts) -> Result<(), NoMemory>
     requires { AreFew counts }
-    ensures { OnOk result (gates.new.items ≡ gates.old.items ++ map (λ i. inverter (output_net counts i) (shared_net counts i)) (range_with_len 0 counts.outputs)) }
+    ensures { OnOk result (gates.new.items ≡ gates.old.items
+        ++ map (λ i. inverter (output_net counts i) (shared_net counts i)) (range_with_len 0 counts.outputs)) }
 {
     for y in 0..counts.outputs {
         add_inverter(alloc, gates, counts.output_net(y), counts.shared_net(y))?;

@@ -28,7 +28,8 @@ pub fn add_terms(
     requires narrow { All (λ symbol. length symbol.pattern ≤ 16) symbols.now }
     requires step_positions { All (λ step. NamesPosition counts.positions step.state) steps.now }
     requires marked_positions { All (NamesPosition counts.positions) marked.now }
-    ensures { OnOk result (gates.new.items ≡ gates.old.items ++ term_gates counts symbols.now (map step_named steps.now) (map state_named marked.now)) }
+    ensures { OnOk result (gates.new.items ≡ gates.old.items
+        ++ term_gates counts symbols.now (map step_named steps.now) (map state_named marked.now)) }
 {
     for k in 0..steps.len() as u32 {
         let inputs = step_inputs(alloc, counts, symbols, steps[k as usize])?;
@@ -49,7 +50,8 @@ fn add_mark_terms(
     requires few_steps { from ≤ 2 ^ 21 }
     requires few_marked { length marked.now ≤ 2 ^ 21 }
     requires positions { All (NamesPosition counts.positions) marked.now }
-    ensures { OnOk result (gates.new.items ≡ gates.old.items ++ map (mark_gate counts from (map state_named marked.now)) (range_with_len 0 (length marked.now))) }
+    ensures { OnOk result (gates.new.items ≡ gates.old.items
+        ++ map (mark_gate counts from (map state_named marked.now)) (range_with_len 0 (length marked.now))) }
 {
     for k in 0..marked.len() as u32 {
         let mut inputs = Vec::new(alloc);
@@ -171,7 +173,8 @@ fn feeding_terms(
     requires few_steps { length steps.now ≤ 2 ^ 21 }
     requires positions { All (λ step. NamesPosition counts.positions step.state) steps.now }
     requires position { position < counts.positions }
-    ensures { IfOk result (λ inputs. inputs.items ≡ flat_map (feeding_term counts nfa.now (map step_named steps.now) position) (range_with_len 0 (length steps.now))) }
+    ensures { IfOk result (λ inputs. inputs.items
+        ≡ flat_map (feeding_term counts nfa.now (map step_named steps.now) position) (range_with_len 0 (length steps.now))) }
 {
     let mut inputs = Vec::new(alloc);
     for k in 0..steps.len() as u32 {
@@ -211,7 +214,8 @@ fn add_shared(
     requires few_steps { from ≤ 2 ^ 21 }
     requires few_marked { length marked.now ≤ 2 ^ 21 }
     requires positions { All (NamesPosition counts.positions) marked.now }
-    ensures { OnOk result (gates.new.items ≡ gates.old.items ++ map (shared_gate counts nfa.now from (map state_named marked.now)) (range_with_len 0 counts.outputs)) }
+    ensures { OnOk result (gates.new.items ≡ gates.old.items
+        ++ map (shared_gate counts nfa.now from (map state_named marked.now)) (range_with_len 0 counts.outputs)) }
 {
     for output in 0..counts.outputs {
         let inputs = marking_terms(alloc, counts, nfa, from, marked, output)?;
@@ -235,7 +239,8 @@ fn marking_terms(
     requires few_marked { length marked.now ≤ 2 ^ 21 }
     requires positions { All (NamesPosition counts.positions) marked.now }
     requires output { output < 16 }
-    ensures { IfOk result (λ inputs. inputs.items ≡ flat_map (marking_term counts nfa.now from (map state_named marked.now) output) (range_with_len 0 (length marked.now))) }
+    ensures { IfOk result (λ inputs. inputs.items
+        ≡ flat_map (marking_term counts nfa.now from (map state_named marked.now) output) (range_with_len 0 (length marked.now))) }
 {
     let mut inputs = Vec::new(alloc);
     for k in 0..marked.len() as u32 {
