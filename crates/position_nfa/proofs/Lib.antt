@@ -30,9 +30,15 @@ pub mod Nors
 pub mod ArrayOuts
 pub mod ArrayPads
 pub mod RegisterNetlist
+pub mod Swaps
+pub mod LocalWords
+pub mod Images
+pub mod Reaching
+pub mod Letterwise
 pub mod Literals
 pub mod ArrayValues
 pub mod StateLists
 pub mod Shown
 pub mod PadNames
 pub mod Known
+pub mod StateRuns
