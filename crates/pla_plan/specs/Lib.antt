@@ -3,8 +3,8 @@ pub mod Planes
 pub mod Fits
 pub mod ArrayOf
 pub mod PlaneModules
-pub mod RowChips
 pub mod ArrayNetworks
+pub mod RowChips
 -- Definitions that serve private contracts alone:
 pub mod Made
 pub mod Numbered

@@ -17,7 +17,7 @@ labels_of-requires c =
     let positions = ap length c.symbols.ensures.symbols in
     let outputs = ap length c.outputs.ensures.outputs in
     let all = All-from_recursion (λ (pad : Pad). pad.net.0 < part_nets counts + 0) (array_pads counts tables) (pads_below counts tables 0) in
-    let pads_are = c.pads.ensures.pads ∙ ap (λ (n : Netlist). n.pads) c.in_ok-net.ensures in
+    let pads_are = c.pads.ensures.pads ∙ ap (λ (n : Netlist). n.pads) c.in_ok-net.ensures.netlist in
     let given = subst (All (λ (pad : Pad). pad.net.0 < part_nets counts + 0)) (sym pads_are) all in
     let long = ap length c.deref.ensures.value ∙ ap length c.in_ok-at.ensures
     ∙ columns_long (2 + 2 * length c.lines.result.now + length c.symbols.result.now) (length c.symbols.result.now) (length c.outputs.result.now) in
