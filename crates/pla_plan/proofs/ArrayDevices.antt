@@ -160,7 +160,7 @@ module _ (nfa : Automaton) (tables : Tables) (few : AreFew (array_counts nfa tab
   abbrev all : List NorGate
   all = terms ++ sums ++ lower
 
-  below : AllByRecursion (λ (gate : NorGate). gate.out < part_nets c + length terms) all
+  pub below : AllByRecursion (λ (gate : NorGate). gate.out < part_nets c + length terms) all
   below =
       let long = terms_long in
       each_append (λ (gate : NorGate). gate.out < part_nets c + length terms) (terms ++ sums) lower

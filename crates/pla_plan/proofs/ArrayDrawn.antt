@@ -27,6 +27,14 @@ use Rattle.pla_plan.proofs.ArrayLabels as drawn
 use Rattle.pla_plan.proofs.ArrayDevices.{devices_are}
 use Rattle.pla_plan.proofs.ArraySame.{same_network}
 
+-- no two pads have one name or one net
+pub pads_apart : (nfa : Automaton) (tables : Tables) → IsSpecification tables → Pairs AreDistinct (array_pads (array_counts nfa tables) tables)
+pads_apart nfa tables specification =
+    pads_differ (array_counts nfa tables) tables refl refl
+    (pairs_first tables.lines (map (λ s. s.name) tables.symbols)
+    (pairs_first (tables.lines ++ map (λ s. s.name) tables.symbols) tables.outputs specification.names_differ))
+    (pairs_second (tables.lines ++ map (λ s. s.name) tables.symbols) tables.outputs specification.names_differ)
+
 module _ (nfa : Automaton) (tables : Tables) (automaton : IsAutomaton nfa) (specification : IsSpecification tables) (few : length nfa.symbols ≤ 256)
     (arrays : AutomataMakeArrays) (modules : PlanesAreModules) (columns : ColumnsAreOfNets) (networks : ModulesStandForNetworks)
     (transitive : SameIsTransitive) where
@@ -48,13 +56,6 @@ module _ (nfa : Automaton) (tables : Tables) (automaton : IsAutomaton nfa) (spec
   below : (pad : Pad) → Among pads pad → pad.net.0 < planes.part.nets
   below pad h = let lt = each_among (λ (p : Pad). p.net.0 < part_nets c + 0) pads pad (pads_below c tables 0) h in omega arith
 
-  differ : Pairs AreDistinct pads
-  differ =
-      pads_differ c tables refl refl
-      (pairs_first tables.lines (map (λ s. s.name) tables.symbols)
-      (pairs_first (tables.lines ++ map (λ s. s.name) tables.symbols) tables.outputs specification.names_differ))
-      (pairs_second (tables.lines ++ map (λ s. s.name) tables.symbols) tables.outputs specification.names_differ)
-
   needed : (role : Role) → IsNeeded role → HasLabel (array_labels nfa tables) role
   needed Vdd h = (_, inl refl, refl)
   needed Gnd h = (_, inr (inl refl), refl)
@@ -67,8 +68,8 @@ module _ (nfa : Automaton) (tables : Tables) (automaton : IsAutomaton nfa) (spec
   stands : StandsForSame (Covers (planes_plan planes)) (array_labels nfa tables)
       (record { nets = planes.part.nets + length planes.terms; pads = pads; devices = planes_devices planes })
   stands =
-      drawn.stand planes is_array (columns planes.at planes.cols is_array.part_fits.columns) pads below (agreeing pads differ) needed
-      (firsts planes.at pads differ) (_, inl refl, refl, refl) networks (modules planes is_array)
+      drawn.stand planes is_array (columns planes.at planes.cols is_array.part_fits.columns) pads below (agreeing pads (pads_apart nfa tables specification)) needed
+      (firsts planes.at pads (pads_apart nfa tables specification)) (_, inl refl, refl, refl) networks (modules planes is_array)
 
   pub registers_drawn : StandsForSame (Covers (planes_plan planes)) (array_labels nfa tables) (switch_form (register_netlist nfa tables))
   registers_drawn = record {

@@ -12,16 +12,16 @@ use Rattle.switch_net.specs.declared.network.Pad.{Pad}
 use Rattle.nmos_model.specs.Networks.{StandsFor}
 use Rattle.stick_grid.specs.LabelledModules.{StandsForSame}
 use Rattle.pla_plan.specs.ArrayNetworks.{IsRecogniser, DrawsRecogniser}
+use Rattle.pla_plan.proofs.DrawnNetworks.{drawn_is_network}
 
 names_kept : (rename : ℕ → ℕ) (pads : List Pad) → map (λ (pad : Pad). pad.name) (map (renamed_pad rename) pads) ≡ map (λ (pad : Pad). pad.name) pads
 names_kept rename [] = refl
 names_kept rename (pad ∷ pads) = ap (λ (l : List NamedRole). pad.name ∷ l) (names_kept rename pads)
 
 pub draws : (spec : Specification) (Drawn : Drawing) (labels : List Label) (circuit : Circuit) → SameIsSymmetric → SameShowAlike
-    → StandsForSame Drawn labels circuit → ((drawn : Circuit) → StandsFor Drawn labels drawn → IsNetwork drawn) → IsNetwork circuit
-    → IsRecogniser spec circuit → DrawsRecogniser spec Drawn labels
-draws spec Drawn labels circuit symmetric show s networks network recogniser =
-    let alike = show circuit s.drawn network (networks s.drawn s.stands) (symmetric s.drawn circuit s.same) in
+    → StandsForSame Drawn labels circuit → IsNetwork circuit → IsRecogniser spec circuit → DrawsRecogniser spec Drawn labels
+draws spec Drawn labels circuit symmetric show s network recogniser =
+    let alike = show circuit s.drawn network (drawn_is_network Drawn labels s.drawn circuit s.stands s.same network) (symmetric s.drawn circuit s.same) in
     record {
       circuit = s.drawn;
       stands = s.stands;

@@ -33,3 +33,5 @@ pub mod ArrayPads
 pub mod PadLabels
 pub mod ArrayDrawn
 pub mod ArrayRecognised
+pub mod DrawnNetworks
+pub mod ArraySwitch

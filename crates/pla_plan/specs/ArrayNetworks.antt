@@ -8,7 +8,6 @@ use Rattle.rx_lang.specs.Positions.{array_rows, array_columns}
 use Rattle.rx_lang.specs.Tables.{Tables, IsSpecification, specification}
 use Rattle.switch_net.specs.Circuit.{Circuit}
 use Rattle.switch_net.specs.Recognition.{HasPads, Recognises, ShowsSurely}
-use Rattle.switch_net.specs.Validity.{IsNetwork}
 use Rattle.switch_net.specs.declared.network.Pad.{Pad}
 use Rattle.nmos_model.specs.Networks.{StandsFor}
 use Rattle.stick_grid.specs.Plans.{Covers}
@@ -55,10 +54,8 @@ pub record DrawsRecogniser (spec : Specification) (Drawn : Drawing) (labels : Li
   pub stands : StandsFor Drawn labels circuit
   pub recogniser : IsRecogniser spec circuit
 
--- Where the switch network of the registers is one of the specification, the array draws one. What the squares stand for are
--- networks: this is a premise until it is a law of drawings.
+-- Where the switch network of the registers is one of the specification, the array draws one.
 abbrev pub ArraysRecognise : Type 0
 ArraysRecognise = (nfa : Automaton) (tables : Tables) → IsAutomaton nfa → IsSpecification tables → length nfa.symbols ≤ 256
-    → ((drawn : Circuit) → StandsFor (Covers (planes_plan (array_of nfa tables))) (array_labels nfa tables) drawn → IsNetwork drawn)
-    → IsNetwork (switch_form (register_netlist nfa tables)) → IsRecogniser (specification tables) (switch_form (register_netlist nfa tables))
+    → IsRecogniser (specification tables) (switch_form (register_netlist nfa tables))
     → DrawsRecogniser (specification tables) (Covers (planes_plan (array_of nfa tables))) (array_labels nfa tables)

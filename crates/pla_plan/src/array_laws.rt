@@ -35,6 +35,7 @@ pub fn arrays_draw_registers()
 pub fn arrays_recognise()
     ensures { ArraysRecognise }
 {
+    automata_make_arrays();
     arrays_draw_registers();
     same_networks_agree();
     same_networks_run_alike();
