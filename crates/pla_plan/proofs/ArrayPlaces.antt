@@ -131,6 +131,15 @@ module _ (c : ArrayCounts) where
       ∙ output_at (sums + 8 * c.positions) 0 c.outputs clocks y lt
       ∙ same
 
+-- the columns by the numbers of left nets, positions and outputs
+abbrev pub columns_by : ℕ → ℕ → ℕ → List ℕ
+columns_by left n q =
+    every_second 2 (left + 2) ++ (every_second (2 * left + 7) (4 * n)
+    ++ (flat_map (output_columns (2 * left + 7 + 8 * n)) (range_with_len 0 q) ++ every_second (2 * left + 7 + 8 * (n + q)) 4))
+
+pub same_columns : (j k m l n q : ℕ) → j ≡ l → k ≡ n → m ≡ q → columns_by (2 + 2 * j + k) k m ≡ columns_by (2 + 2 * l + n) n q
+same_columns j k m l n q a b d = λ i. columns_by (2 + 2 * a i + b i) (b i) (d i)
+
 -- how many columns there are, by the numbers of left nets, positions and outputs
 pub columns_long : (left n q : ℕ) → length (every_second 2 (left + 2) ++ (every_second (2 * left + 7) (4 * n)
     ++ (flat_map (output_columns (2 * left + 7 + 8 * n)) (range_with_len 0 q) ++ every_second (2 * left + 7 + 8 * (n + q)) 4)))

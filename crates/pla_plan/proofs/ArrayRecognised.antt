@@ -9,7 +9,6 @@ use Rattle.switch_net.specs.SameNetworks.{SameIsSymmetric}
 use Rattle.switch_net.specs.SameRuns.{SameShowAlike, recognises_alike, shows_surely_alike}
 use Rattle.switch_net.specs.Validity.{IsNetwork}
 use Rattle.switch_net.specs.declared.network.Pad.{Pad}
-use Rattle.nmos_model.specs.Networks.{StandsFor}
 use Rattle.stick_grid.specs.LabelledModules.{StandsForSame}
 use Rattle.pla_plan.specs.ArrayNetworks.{IsRecogniser, DrawsRecogniser}
 use Rattle.pla_plan.proofs.DrawnNetworks.{drawn_is_network}

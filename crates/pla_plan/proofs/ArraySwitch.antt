@@ -1,22 +1,21 @@
 -- The switch network of an automaton's registers is a network.
 use Rattle.std.specs.Prelude.{flat_map}
-use Rattle.std.proofs.Common.{◌≡◌, ◌≢◌, ℕ, ◌+◌, ◌<◌, ◌≤◌, Bool, true, false, if◌then◌else◌, List, [], ◌∷◌, ◌++◌, map, length, All, AllPairs, refl, arith}
+use Rattle.std.proofs.Common.{ℕ, ◌+◌, ◌<◌, ◌≤◌, Bool, true, false, if◌then◌else◌, List, [], ◌∷◌, ◌++◌, map, length, All, refl, arith}
 use Rattle.std.specs.List.{AllByRecursion, range_with_len}
 use Rattle.std.proofs.lemmas.List.Elements.{All-from_recursion, recursion_from_All}
 use Rattle.rx_text.specs.declared.pad_name.Role.TheVariants.{Vdd, Gnd, Phi1, Phi2, Reset}
-use Rattle.rx_lang.specs.Tables.{Tables, IsSpecification}
+use Rattle.rx_lang.specs.Tables.{Tables}
 use Rattle.switch_net.specs.ClockedLogic.{NamesBelow}
 use Rattle.switch_net.specs.Validity.{AreDistinct, IsNetwork}
 use Rattle.switch_net.specs.declared.network.Pad.{Pad}
-use Rattle.switch_net.specs.declared.network.Device.{Device}
 use Rattle.switch_net.specs.declared.network.Device.TheVariants.{Load}
 use Rattle.nor_net.specs.Netlist.{NorGate}
 use Rattle.nor_net.specs.Evaluation.{is_output}
-use Rattle.nor_net.specs.Part.{IsPart, IsPartGate, IsPartTransfer, clocked_device}
+use Rattle.nor_net.specs.Part.{IsPartGate}
 use Rattle.nor_net.specs.SwitchForm.{at, load_at, pull_downs, transfer_device, switch_form, devices_of}
 use Rattle.nor_net.specs.declared.gate.Transfer.{Transfer}
 use Rattle.position_nfa.specs.declared.array_nets.ArrayCounts.{ArrayCounts}
-use Rattle.position_nfa.specs.Automaton.{Automaton, IsAutomaton}
+use Rattle.position_nfa.specs.Automaton.{Automaton}
 use Rattle.position_nfa.specs.Registers.{AreFew, array_counts, array_pads, part_nets, ground_net, reset_net, phi1_net, phi2_net, plain, first_transfer, second_transfer, array_transfers, register_netlist}
 use Rattle.pla_plan.specs.Planes.{PlaneTables}
 use Rattle.pla_plan.specs.Fits.{IsArray, IsPlaneGate}

@@ -35,3 +35,4 @@ pub mod ArrayDrawn
 pub mod ArrayRecognised
 pub mod DrawnNetworks
 pub mod ArraySwitch
+pub mod RecogniserOf
