@@ -18,6 +18,7 @@ pub mod OpenFrames
 pub mod UsesBuilt
 pub mod NodesLaid
 pub mod Faultless
+pub mod FewSymbols
 pub mod NodeReading
 pub mod AllNodes
 pub mod AcceptedParts

@@ -1,6 +1,6 @@
 //! Laws of tokens, of first faults and of acceptance.
 
-ghost use Rattle.std.specs.Prelude.{◌≡◌, ◌⊎◌, ℕ, true, List, All};
+ghost use Rattle.std.specs.Prelude.{◌≡◌, ◌⊎◌, ◌≤◌, ℕ, true, length, List, All};
 ghost use Rattle.rx_syntax.specs.Lexemes.{Lexeme, TokensOf};
 ghost use Rattle.rx_syntax.specs.Refusals.{StandsFirst, IsShaped};
 ghost use Rattle.rx_syntax.specs.Accepted.{Accepted, Refused};
@@ -9,6 +9,7 @@ ghost use Rattle.rx_syntax.specs.Printable.{IsPrintable};
 ghost use Rattle.rx_syntax.specs.SpecRefusal.{SpecRefusal};
 ghost use Rattle.rx_text.specs.Name.{is_name};
 ghost use Rattle.rx_text.specs.declared.place.Place.{Place};
+ghost use Rattle.rx_lang.specs.Positions.{occurrence_symbols};
 ghost use Rattle.rx_lang.specs.Specification.{Specification};
 ghost use Rattle.rx_lang.specs.Tables.{Tables, specification};
 ghost use Rattle.rx_syntax.specs.declared.spec_code.SpecCode.{SpecCode};
@@ -68,4 +69,9 @@ pub fn printed_specifications_are_accepted()
 pub fn accepted_names_are_names()
     ensures lines { (text : List ℕ) (limit : ℕ) (spec : Specification) → Accepted text limit spec → All (λ name. is_name name ≡ true) spec.lines }
     ensures outputs { (text : List ℕ) (limit : ℕ) (spec : Specification) → Accepted text limit spec → All (λ name. is_name name ≡ true) spec.outputs }
+{}
+
+/// An accepted specification has no more symbols in its expressions, copies under counted repeats among them, than its limit.
+pub fn accepted_specifications_have_few_symbols()
+    ensures { (text : List ℕ) (limit : ℕ) (spec : Specification) → Accepted text limit spec → length (occurrence_symbols spec) ≤ limit }
 {}

@@ -12,7 +12,7 @@ use Rattle.rxc_program.proofs.Names.{pads_named}
 use Rattle.rxc_program.specs.Behaviour.{Behaviour}
 use Rattle.rxc_program.specs.Compiling.{IsCompiled, compiling}
 use Rattle.rxc_program.specs.Endings.{Change, Untouched}
-use Rattle.rxc_program.specs.Files.{IsNetworkOf, most_leaves, network_file}
+use Rattle.rxc_program.specs.Files.{FileKind, IsNetworkOf, most_leaves, network_file}
 use Rattle.rxc_program.specs.Serving.{AnswersText, StopsBy, TakesLines, TakesPiece, TookFront}
 use Rattle.rxc_program.specs.Simulating.{IsDrivenBy, IsSimulated, simulating}
 use Rattle.rxc_program.specs.declared.status.Code.{Code}
@@ -39,10 +39,21 @@ module _ {Sink : Type 0} (sink : Change Sink) (text : List ℕ) where
   stopped does WriteFault untouched stops = absurd stops
   stopped does NoMemory untouched stops = inl untouched
 
+  -- a compiler writes the file
+  module _ (kind : FileKind) (file : List ℕ) (is : IsCompiled kind text file) where
+    pub file_answers : (status : Status) → TakesPiece sink file status → AnswersText (compiling kind) sink text status
+    file_answers Done took = (file, (refl, is), took)
+    file_answers (Refused code place) took = absurd took
+    file_answers (Usage word) took = took
+    file_answers ReadFault took = took
+    file_answers WriteFault took = (took.0, record { output = file; status = Done; outputs = (refl, is); gained = took.1 })
+    file_answers NoMemory took = absurd took
+
   module _ (spec : Specification) (circuit : Circuit) (accepted : Accepted text (most_leaves network_file) spec) (of : IsNetworkOf spec circuit)
       (network : IsNetwork circuit) (few : circuit.nets ≤ 16777216)
       (lines : All (λ name. is_name name ≡ true) spec.lines) (outputs : All (λ name. is_name name ≡ true) spec.outputs) where
-    compiled : IsCompiled network_file text (network_text circuit)
+    -- the text of a network of the specification is a file of it
+    pub compiled : IsCompiled network_file text (network_text circuit)
     compiled = record {
       spec = spec;
       accepted = accepted;
@@ -55,16 +66,6 @@ module _ {Sink : Type 0} (sink : Change Sink) (text : List ℕ) where
         compiled = of;
       };
     }
-
-    -- `net` writes the text of the network
-    pub net_answers : (status : Status) → TakesPiece sink (network_text circuit) status → AnswersText (compiling network_file) sink text status
-    net_answers Done took = (network_text circuit, (refl, compiled), took)
-    net_answers (Refused code place) took = absurd took
-    net_answers (Usage word) took = took
-    net_answers ReadFault took = took
-    net_answers WriteFault took =
-        (took.0, record { output = network_text circuit; status = Done; outputs = (refl, compiled); gained = took.1 })
-    net_answers NoMemory took = absurd took
 
   module _ (vectors : List (List Bool)) (circuit : Circuit) (driven : IsDrivenBy text vectors circuit) where
     simulated : (lines : List ℕ) → first_wrong circuit vectors ≡ None → TraceLines circuit vectors lines → IsSimulated text lines

@@ -1,5 +1,5 @@
 -- A file of a specification, behind a trace, is simulated to the bits of the languages.
-use Rattle.std.proofs.Common.{◌≡◌, ℕ, ◌==◌, not, Bool, List, [], ◌∷◌, None, length, drop, refl, sym, subst, arith, eq-eqb}
+use Rattle.std.proofs.Common.{◌≡◌, ℕ, ◌==◌, not, Bool, List, [], ◌∷◌, None, length, refl, sym, subst, arith, eq-eqb}
 use Rattle.std.proofs.lemmas.Bool.{le-ltb}
 use Rattle.std.proofs.lemmas.List.Elements.{recursion_from_All}
 use Rattle.std.specs.List.{AllByRecursion, position, prefix_len}
@@ -11,8 +11,7 @@ use Rattle.rxc_program.proofs.DrivenJudged.{same_parts}
 use Rattle.rxc_program.proofs.Telling.{tells_languages, width}
 use Rattle.switch_net.specs.Recognition.{IsWordOf}
 use Rattle.net_text.specs.NetworkText.{TextIsOfOneNetwork}
-use Rattle.rxc_program.specs.Files.{FileKind, FileStandsFor, network_file}
-use Rattle.rxc_program.specs.Simulating.{Drives, IsChip, IsSimulated, simulating}
+use Rattle.rxc_program.specs.Simulating.{Drives, IsSimulated, simulating}
 use Rattle.rxc_program.specs.Telling.{DrivesFile, TellsLanguages}
 
 -- vectors of one width are all right
@@ -31,16 +30,12 @@ module _
     → (some ≡ others) × (place ≡ elsewhere))
     (one_network : TextIsOfOneNetwork) (spec : Specification)
     (text : List ℕ) (vectors : List (List Bool)) (is : DrivesFile text spec vectors) where
-  -- a file of a specification is the text of a chip
-  is_chip : (kind : FileKind) (file : List ℕ) (circuit : Circuit) → FileStandsFor kind file circuit → IsChip file circuit
-  is_chip network_file file circuit stands = stands
-
   abbrev circuit : Circuit
   circuit = is.file.circuit
 
   driven : Drives text vectors circuit
   driven = record {
-    parts = record { place = is.place; trace = is.trace; chip = is_chip is.kind (drop is.place text) circuit is.file.stands };
+    parts = record { place = is.place; trace = is.trace; chip = is.file.stands };
     widths = none_wrong (input_count circuit.pads) vectors
         (subst (λ n. IsWordOf n vectors) (sym (width spec circuit is.file.compiled vectors)) is.widths);
   }

@@ -8,3 +8,8 @@ pub mod Telling
 pub mod Files
 pub mod Answered
 pub mod Promised
+pub mod WrittenBoxes
+pub mod PlanSquares
+pub mod WrittenRows
+pub mod ArrayLabels
+pub mod ArrayFiles

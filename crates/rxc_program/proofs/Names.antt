@@ -34,8 +34,14 @@ of_pads : (pads : List Pad) → AllByRecursion BearsItsName (map (λ pad. pad.na
 of_pads [] h = tt
 of_pads (pad ∷ pads) h = (h.0, of_pads pads h.1)
 
+-- the names of a specification's pads
+pub all_names : (lines outputs : List (List ℕ)) → All (λ name. is_name name ≡ true) lines → All (λ name. is_name name ≡ true) outputs
+    → AllByRecursion BearsItsName (pad_names lines outputs)
+all_names lines outputs line_names output_names =
+    all_pads lines outputs (recursion_from_All _ lines line_names) (recursion_from_All _ outputs output_names)
+
 pub pads_named : (lines outputs : List (List ℕ)) → All (λ name. is_name name ≡ true) lines → All (λ name. is_name name ≡ true) outputs
     → (circuit : Circuit) → HasPads circuit lines outputs → All IsNamed circuit.pads
 pads_named lines outputs line_names output_names circuit pads =
     All-from_recursion _ _ (of_pads circuit.pads (subst (AllByRecursion BearsItsName) (sym pads)
-    (all_pads lines outputs (recursion_from_All _ lines line_names) (recursion_from_All _ outputs output_names))))
+    (all_names lines outputs line_names output_names)))

@@ -1,21 +1,35 @@
 -- Files of networks that recognise the languages of a specification.
 use Rattle.std.specs.Prelude.{ℕ, List, length}
+use Rattle.geom.specs.declared.chip.Label.{Label}
+use Rattle.geom.specs.Squares.{BoxShape, Covered}
+use Rattle.geom.specs.CifRefusals.{DrawsCif}
 use Rattle.rx_lang.specs.Specification.{Specification, Language}
 use Rattle.switch_net.specs.Circuit.{Circuit}
 use Rattle.switch_net.specs.Recognition.{HasPads, Recognises, ShowsSurely}
 use Rattle.net_text.specs.NetworkText.{IsNetworkText}
+use Rattle.nmos_model.specs.Networks.{StandsFor}
 
 -- the kinds of files that are written for a specification
 pub data FileKind : Type 0 where
   network_file : FileKind
+  pla_file : FileKind
 
 -- the most symbols in the expressions of a specification that is compiled to such a file
 abbrev pub most_leaves : FileKind → ℕ
 most_leaves network_file = 4096
+most_leaves pla_file = 256
+
+-- The file is a CIF text, and the squares of the boxes that it draws, with its labels, stand for this circuit.
+pub record DrawsNetwork (file : List ℕ) (circuit : Circuit) : Type 0 where
+  pub boxes : List BoxShape
+  pub labels : List Label
+  pub draws : DrawsCif file boxes labels
+  pub stands : StandsFor (Covered boxes) labels circuit
 
 -- The file is of this kind, and stands for this circuit.
 abbrev pub FileStandsFor : FileKind → List ℕ → Circuit → Type 0
 FileStandsFor network_file file circuit = IsNetworkText file circuit
+FileStandsFor pla_file file circuit = DrawsNetwork file circuit
 
 -- A network of the specification: it has the pads of the specification, and from all charges each output is high after t
 -- clocks exactly where the first t input vectors lie in its language; so also in a ternary run, in which no output is unknown.

@@ -7,7 +7,7 @@ use Rattle.switch_net.specs.Circuit.{Circuit}
 use Rattle.switch_net.specs.Recognition.{IsWordOf}
 use Rattle.switch_sim.specs.TraceLines.{TraceLines}
 use Rattle.switch_sim.specs.TraceTexts.{IsTrace}
-use Rattle.rxc_program.specs.Files.{FileKind, IsFileOf, IsNetworkOf, most_leaves}
+use Rattle.rxc_program.specs.Files.{IsFileOf, IsNetworkOf, most_leaves, network_file}
 use Rattle.rxc_program.specs.Simulating.{Drives, IsSimulated, simulating}
 
 -- The byte is `1` where this holds, and `0` where it does not.
@@ -37,14 +37,14 @@ NetworksShowTheirLanguages =
     (spec : Specification) (text output : List ℕ) (vectors : List (List Bool)) (circuit : Circuit)
     → IsNetworkOf spec circuit → Drives text vectors circuit → TraceLines circuit vectors output → TellsLanguages spec vectors output
 
--- The text is a trace of these vectors, each with one bit for each line, and behind it a file of this accepted specification.
+-- The text is a trace of these vectors, each with one bit for each line, and behind it a file of this accepted specification that `sim`
+-- reads: a network file.
 pub record DrivesFile (text : List ℕ) (spec : Specification) (vectors : List (List Bool)) : Type 0 where
-  pub kind : FileKind
   pub source : List ℕ
-  pub accepted : Accepted source (most_leaves kind) spec
+  pub accepted : Accepted source (most_leaves network_file) spec
   pub place : ℕ
   pub trace : IsTrace text vectors place
-  pub file : IsFileOf kind spec (drop place text)
+  pub file : IsFileOf network_file spec (drop place text)
   pub widths : IsWordOf (length spec.lines) vectors
 
 -- `sim` accepts such a text, and its output tells the languages.

@@ -8,10 +8,12 @@ ghost use Rattle.rxc_program.specs.Logged.{IsLogged};
 ghost use Rattle.rxc_program.specs.Promises.{RunsCommand};
 ghost use Rattle.rxc_program.specs.StatusText.{exit_number};
 
+mod drawn;
 mod input;
 mod laws;
 mod log;
 mod net;
+mod pla;
 mod sim;
 mod status;
 mod top;
@@ -24,6 +26,8 @@ pub use status::{Code, Status};
 pub use top::rxc;
 pub use words::RxWord;
 
+#[cfg(test)]
+mod pla_rows;
 #[cfg(test)]
 mod rows;
 #[cfg(test)]

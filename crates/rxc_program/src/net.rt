@@ -12,15 +12,14 @@ ghost use Rattle.rxc_program.specs.Endings.{change, CommandRun};
 ghost use Rattle.rxc_program.specs.Files.{IsNetworkOf, most_leaves, network_file};
 ghost use Rattle.rxc_program.specs.Serving.{AnswersText, StopsBy, TakesPiece};
 
-use crate::input::read_input;
-use crate::status::{Code, Status};
+use crate::input::{read_input, specification};
+use crate::status::Status;
 use cell_network::cells;
 use net_text::write_net;
 use nor_net::to_switch;
 use rx_io::{Sink, Source};
 use rx_lang::Spec;
 use rx_syntax::laws::accepted_names_are_names;
-use rx_syntax::{ReadSpecFault, read_spec};
 use star_normal::normalize;
 use std::alloc::Global;
 use switch_net::Network;
@@ -58,24 +57,8 @@ fn compile(alloc: Global, text: &[u8]) -> Result<Network, Status>
     ensures valid { IfOk result (λ network. IsNetwork network × (network.nets ≤ 16777216)) }
     ensures status { IfErr result (StopsBy (BreaksSpecification (most_leaves network_file) text.now)) }
 {
-    let spec = specification(alloc, text)?;
+    let spec = specification(alloc, text, MOST_LEAVES)?;
     network_of(alloc, &spec)
-}
-
-/// The specification that the text is.
-fn specification(alloc: Global, text: &[u8]) -> Result<Spec, Status>
-    requires { length text.now ≤ most_input_bytes }
-    ensures accepted { IfOk result (λ spec. Accepted text.now (most_leaves network_file) (specification spec)) }
-    ensures status { IfErr result (StopsBy (BreaksSpecification (most_leaves network_file) text.now)) }
-{
-    match read_spec(alloc, text, MOST_LEAVES) {
-        Ok(spec) => Ok(spec),
-        Err(ReadSpecFault::Fault(fault)) => Err(Status::Refused {
-            code: Code::of_spec(fault.code),
-            place: fault.place,
-        }),
-        Err(ReadSpecFault::NoMemory) => Err(Status::NoMemory),
-    }
 }
 
 /// The network of the cells of the specification's normal form.

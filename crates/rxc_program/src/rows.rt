@@ -82,7 +82,7 @@ const ONE_NETWORK: &[u8] =
 const ONE_PADS: &[u8] = b"\nvdd 0\ngnd 1\nphi1 2\nphi2 3\nreset 4\nin x 5\nout z ";
 
 /// A specification up to its symbols in sequence.
-const SYMBOLS: &[u8] = b"line x;\nsymbol a = 1;\noutput z;\nexpr";
+pub(crate) const SYMBOLS: &[u8] = b"line x;\nsymbol a = 1;\noutput z;\nexpr";
 
 /// Runs of `net`, and of words that are no command.
 pub(crate) const ROWS: &[Row] = &[
@@ -440,6 +440,7 @@ pub(crate) const ROWS: &[Row] = &[
 /// Words and inputs of which no front is accepted, up to so many bytes before the end.
 pub(crate) const FRONTS: &[(&[u8], Input, usize)] = &[
     (b"net", Input::Text(ONE), 2),
+    (b"pla", Input::Text(ONE), 2),
     (b"sim", Input::Behind(b"1\nchip\n", INVERTER), 0),
 ];
 

@@ -130,7 +130,7 @@ pub enum Status {
     ReadFault,
     /// The sink failed; a front of the output was written.
     WriteFault,
-    /// No memory was to be had; a front of the output was written, and none of it by `net`.
+    /// No memory was to be had; a front of the output was written, and none of it by `net` and `pla`.
     NoMemory,
 }
 

@@ -1,4 +1,5 @@
 //! Runs of the program over memory: each row of the tables, and inputs that are cut or noise.
+use crate::pla_rows::PLA_ROWS;
 use crate::rows::{FAILING, FRONTS, Failing, Input, Output, ROWS, Row, status_of};
 use crate::sim_rows::SIM_ROWS;
 use crate::status::Status;
@@ -119,6 +120,11 @@ fn runs_come_out(rt: HostRuntime) -> Result<(), Fail> {
     rows_come_out(&rt, rt.alloc(), SIM_ROWS)
 }
 
+#[test]
+fn arrays_come_out(rt: HostRuntime) -> Result<(), Fail> {
+    rows_come_out(&rt, rt.alloc(), PLA_ROWS)
+}
+
 /// The run is refused, and writes nothing.
 fn is_refused(alloc: Global, word: &[u8], text: &[u8]) -> Result<bool, Fail> {
     let run = run_on(alloc, &[word], text, NO_FAULTS)?;
@@ -152,6 +158,7 @@ fn noise_is_refused(rt: HostRuntime) -> Result<(), Fail> {
     for seed in 0..200 {
         let text = noise(rt.alloc(), seed, seed % 64)?;
         assert!(rt; is_refused(rt.alloc(), b"net", &text)?, "{seed}");
+        assert!(rt; is_refused(rt.alloc(), b"pla", &text)?, "{seed}");
         assert!(rt; is_refused(rt.alloc(), b"sim", &text)?, "{seed}");
     }
     Ok(())

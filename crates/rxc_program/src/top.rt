@@ -9,6 +9,7 @@ ghost use Rattle.rxc_program.specs.Promises.{CompilesAccepted, JudgesInput, Repo
 use crate::laws::{inputs_are_judged, networks_show_their_languages};
 use crate::log::told;
 use crate::net::net;
+use crate::pla::pla;
 use crate::sim::sim;
 use crate::status::Status;
 use crate::words::{Command, RxWord, named_command};
@@ -65,6 +66,7 @@ fn serve<S: Source, O: Sink>(alloc: Global, command: Command, src: &mut S, out: 
 {
     match command {
         Command::Net => net(alloc, src, out),
+        Command::Pla => pla(alloc, src, out),
         Command::Sim => sim(alloc, src, out),
     }
 }

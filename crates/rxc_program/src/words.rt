@@ -41,6 +41,8 @@ impl RxWord {
 pub enum Command {
     /// A specification in, the text of its switch network out.
     Net,
+    /// A specification in, the CIF text of its programmable logic array out.
+    Pla,
     /// A trace and the text of a network in, the levels of the network's outputs after each clock out.
     Sim,
 }
@@ -52,6 +54,7 @@ pub(crate) fn named_command(words: &[RxWord]) -> Result<Command, u32>
 {
     match words {
         [first, rest @ ..] if first.is(b"net") => alone(Command::Net, rest),
+        [first, rest @ ..] if first.is(b"pla") => alone(Command::Pla, rest),
         [first, rest @ ..] if first.is(b"sim") => alone(Command::Sim, rest),
         _ => Err(1),
     }

@@ -4,5 +4,8 @@ use Rattle.rxc_program.proofs.top.serve.Goals as goal
 pub returns-in-Net : goal.returns-in-Net
 returns-in-Net g c = rw c.in-Net.is c.net.ensures
 
+pub returns-in-Pla : goal.returns-in-Pla
+returns-in-Pla g c = rw c.in-Pla.is c.pla.ensures
+
 pub returns-in-Sim : goal.returns-in-Sim
 returns-in-Sim g c = rw c.in-Sim.is c.sim.ensures
