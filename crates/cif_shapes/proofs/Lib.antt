@@ -1,0 +1,11 @@
+pub mod Lists
+pub mod Integers
+pub mod PolygonSides
+pub mod Heights
+pub mod WireSegments
+pub mod Rays
+pub mod Runs
+pub mod OddOnes
+pub mod Gathering
+pub mod Strips
+pub mod RunBoxes

@@ -1,0 +1,13 @@
+//! The boxes of polygons and wires: shapes whose sides lie along the axes, as boxes on the grid of lambda.
+#![tactic(auto)]
+
+mod changes;
+mod corners;
+mod polygons;
+mod sides;
+mod wires;
+
+pub use polygons::polygon_boxes;
+pub use rx_text::NoMemory;
+pub use sides::inside;
+pub use wires::wire_boxes;
