@@ -9,3 +9,4 @@ pub mod OddOnes
 pub mod Gathering
 pub mod Strips
 pub mod RunBoxes
+pub mod Covering

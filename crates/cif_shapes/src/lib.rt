@@ -3,10 +3,12 @@
 
 mod changes;
 mod corners;
+mod laws;
 mod polygons;
 mod sides;
 mod wires;
 
+pub use laws::boxes_cover_polygons;
 pub use polygons::polygon_boxes;
 pub use rx_text::NoMemory;
 pub use sides::inside;
