@@ -1,0 +1,13 @@
+pub mod Bytes
+pub mod Alongs
+pub mod Accepting
+pub mod Reading
+pub mod Comments
+pub mod Stepping
+pub mod NumberSteps
+pub mod Finishing
+pub mod Zeros
+pub mod ZeroStands
+pub mod Following
+pub mod Breaking
+pub mod Sorting

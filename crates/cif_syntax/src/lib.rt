@@ -1,0 +1,12 @@
+//! The sentences of CIF texts: commands with their semicolons, and the end. Where a sentence ends, or the byte that breaks
+//! it, byte by byte, in no memory.
+#![tactic(auto)]
+
+mod due;
+mod kind;
+mod next;
+mod sentence;
+mod slot;
+
+pub use next::{Sentence, SyntaxFault, next_sentence};
+pub use sentence::{SentenceFault, sentence_end};
