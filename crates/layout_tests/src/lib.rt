@@ -2,6 +2,8 @@
 #![tactic(auto)]
 
 #[cfg(test)]
+mod cif_sentences;
+#[cfg(test)]
 mod cif_texts;
 #[cfg(test)]
 mod circuits;
@@ -13,6 +15,8 @@ mod geometry;
 mod grids;
 #[cfg(test)]
 mod laid;
+#[cfg(test)]
+mod polygons;
 #[cfg(test)]
 mod shapes;
 #[cfg(test)]
