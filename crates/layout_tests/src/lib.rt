@@ -2,6 +2,8 @@
 #![tactic(auto)]
 
 #[cfg(test)]
+mod cif_reading;
+#[cfg(test)]
 mod cif_sentences;
 #[cfg(test)]
 mod cif_texts;
