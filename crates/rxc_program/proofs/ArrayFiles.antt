@@ -1,80 +1,49 @@
 -- The text of the chip of an array is a file of its specification.
-use Rattle.std.proofs.Common.{◌≡◌, ◌↔◌, inl, inr, ℕ, ◌*◌, ◌<◌, ◌≤◌, true, ℤ, List, [], ◌∷◌, length, map, All, Result, Ok, Err, sym, ◌∙◌, ap, subst, arith}
+use Rattle.std.proofs.Common.{◌≡◌, ◌↔◌, ℕ, ◌≤◌, true, ℤ, List, length, All, Result, Ok, Err, sym, ◌∙◌, subst}
 use Rattle.std.specs.Prelude.{IfOk}
-use Rattle.std.specs.List.{AllByRecursion}
 use Rattle.geom.specs.declared.layer.Layer.{Layer}
 use Rattle.geom.specs.declared.chip.Label.{Label}
 use Rattle.geom.specs.Squares.{Covered}
 use Rattle.geom.specs.Chips.{ChipShape, ChipCovers}
-use Rattle.geom.specs.CifLabels.{IsPadName}
 use Rattle.geom.specs.Rows.{Among}
 use Rattle.cif_write.specs.ChipText.{chip_text}
 use Rattle.cif_write.specs.WrittenChips.{ChipTextsDraw, IsWritable, IsWritableLabel, chip_boxes}
 use Rattle.rx_text.specs.Name.{is_name}
 use Rattle.rx_lang.specs.Specification.{Specification}
 use Rattle.rx_lang.specs.Positions.{occurrence_symbols}
-use Rattle.rx_lang.specs.Specification.{Language}
 use Rattle.micro_tiles.specs.Shapes.{TilesKeepInside}
-use Rattle.nor_net.specs.Clearing.{IsKnownByReset}
-use Rattle.nor_net.specs.Netlist.{Netlist}
-use Rattle.nor_net.specs.Recognised.{ShowsByClocks}
-use Rattle.nor_net.specs.SwitchForm.{switch_form}
-use Rattle.switch_net.specs.Circuit.{Circuit}
 use Rattle.rx_lang.specs.Tables.{Tables, specification}
 use Rattle.position_nfa.specs.Agreement.{IsAutomatonOf}
 use Rattle.position_nfa.specs.Automaton.{Automaton}
-use Rattle.switch_net.specs.Recognition.{HasPads, Recognises, ShowsSurely, pad_names}
 use Rattle.nmos_model.specs.Networks.{StandsFor}
 use Rattle.nmos_model.specs.Alike.{CoverAlike, StandAlike}
 use Rattle.stick_grid.specs.Plans.{Plan, IsPlan, Covers}
 use Rattle.pla_plan.specs.Planes.{PlaneTables, planes_plan}
 use Rattle.pla_plan.specs.ArrayOf.{array_of}
 use Rattle.pla_plan.specs.RowChips.{IsRowChip}
-use Rattle.pla_plan.specs.ArrayNetworks.{DrawsRecogniser, IsRecogniser, array_labels}
+use Rattle.pla_plan.specs.ArrayNetworks.{DrawsRecogniser, array_labels}
 use Rattle.pla_plan.specs.Fits.{IsArray}
 use Rattle.position_nfa.specs.Registers.{array_counts, array_pads}
-use Rattle.rxc_program.proofs.ArrayLabels.{labels_written}
-use Rattle.rxc_program.proofs.Names.{all_names}
+use Rattle.rxc_program.proofs.ArrayLabels.{array_pads_named, labels_written}
 use Rattle.rxc_program.proofs.PlanSquares.{plan_lies}
 use Rattle.rxc_program.proofs.WrittenRows.{row_chip_written}
 use Rattle.rxc_program.proofs.WrittenBoxes.{written_boxes_cover}
 use Rattle.rxc_program.specs.Files.{IsFileOf, pla_file}
 
--- symbols below a number of at most 256
-pub symbols_fit : (symbols leaves : List ℕ) (n : ℕ) → symbols ≡ leaves → All (λ s. s < n) leaves → n ≤ 256 → All (λ s. s < 256) symbols
-symbols_fit symbols leaves n is below few =
-    subst (All (λ s. s < 256)) (sym is) (λ k d within. let here = below k d within in omega (arith, here, few))
-
 -- an automaton has as many positions as its specification has occurrences
 pub few_positions : (spec : Specification) (nfa : Automaton) → IsAutomatonOf spec nfa → length (occurrence_symbols spec) ≤ 256 → length nfa.symbols ≤ 256
 few_positions spec nfa automaton few = subst (λ (symbols : List ℕ). length symbols ≤ 256) (sym automaton.symbols) few
 
--- the switch network of a netlist that shows the languages
-pub recognises_when_shown : (tables : Tables) (net : Netlist) → map (λ pad. pad.name) net.pads ≡ pad_names tables.lines tables.outputs
-    → IsKnownByReset net 1 → {Premise : Type 0} → (Premise → ShowsByClocks net (length tables.lines) (Language (specification tables)))
-    → {E : Type 0} (result : Result Circuit E) → IfOk result (λ network. network ≡ switch_form net)
-    → IfOk result (λ network. (spec : Specification) → ShowsByClocks net (length spec.lines) (Language spec) → Recognises network (length spec.lines) (Language spec))
-    → IfOk result (λ network. (spec : Specification) → ShowsByClocks net (length spec.lines) (Language spec)
-    → (rounds : ℕ) → IsKnownByReset net rounds → ShowsSurely network (length spec.lines) (Language spec))
-    → IfOk result (λ network. Premise → IsRecogniser (specification tables) network)
-recognises_when_shown tables net pads known shows (Err refused) form recognises sure = tt
-recognises_when_shown tables net pads known shows (Ok network) form recognises sure = λ premise. record {
-  pads = subst (λ circuit. HasPads circuit tables.lines tables.outputs) (sym form) pads;
-  recognises = recognises (specification tables) (shows premise);
-  sure = sure (specification tables) (shows premise) 1 known;
-}
-
 module _ (nfa : Automaton) (tables : Tables)
     (lines : All (λ name. is_name name ≡ true) tables.lines) (outputs : All (λ name. is_name name ≡ true) tables.outputs) (texts : ChipTextsDraw)
     (array : IsArray (array_of nfa tables)) (plan_is : IsPlan (planes_plan (array_of nfa tables))) (inside : TilesKeepInside)
-    (shows : DrawsRecogniser (specification tables) (Covers (planes_plan (array_of nfa tables))) (array_labels nfa tables))
-    (pads : map (λ pad. pad.name) (array_pads (array_counts nfa tables) tables) ≡ pad_names tables.lines tables.outputs) where
+    (shows : DrawsRecogniser (specification tables) (Covers (planes_plan (array_of nfa tables))) (array_labels nfa tables)) where
   abbrev plan : Plan
   plan = planes_plan (array_of nfa tables)
 
   written : (label : Label) → Among (array_labels nfa tables) label → IsWritableLabel label
   written = labels_written (array_of nfa tables).at (array_of nfa tables).cols array.part_fits.columns array.few_cols (array_pads (array_counts nfa tables) tables)
-      (subst (AllByRecursion IsPadName) (sym pads) (all_names tables.lines tables.outputs lines outputs))
+      (array_pads_named nfa tables lines outputs)
 
   module _ (chip : ChipShape) (squares : (layer : Layer) (x y : ℤ) → ChipCovers chip layer x y ↔ Covers plan layer x y)
       (labels : chip.labels ≡ array_labels nfa tables) (writable : IsWritable chip)

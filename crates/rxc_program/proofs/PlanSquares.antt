@@ -1,5 +1,5 @@
 -- The squares of a plan lie in its rows and columns of tiles.
-use Rattle.std.proofs.Common.{◌≡◌, ℕ, ◌*◌, ◌<◌, ℤ, pos, ◌≤ℤ◌, ◌<ℤ◌, arith}
+use Rattle.std.proofs.Common.{ℕ, ◌*◌, ℤ, pos, ◌≤ℤ◌, ◌<ℤ◌, arith}
 use Rattle.std.proofs.lemmas.Int.{ints}
 use Rattle.geom.specs.declared.layer.Layer.{Layer}
 use Rattle.geom.specs.Conduction.{Drawing}

@@ -1,6 +1,6 @@
 -- A chip that draws a plan row by row is one whose text draws it.
-use Rattle.std.proofs.Common.{◌≡◌, ◌↔◌, inl, inr, ℕ, zero, suc, ◌+◌, ◌-◌, ◌*◌, ◌<◌, ◌≤◌, ℤ, pos, ◌+ℤ◌, ◌-ℤ◌, ◌≤ℤ◌, ◌<ℤ◌, List, [], ◌∷◌, length, map, slice_get, Some, Bool, true, false, ◌==◌, refl, sym, subst, ap, ◌∙◌, arith, eq-eqb, if◌then◌else◌}
-use Rattle.std.specs.Prelude.{◌^◌, neg_ℤ}
+use Rattle.std.proofs.Common.{◌≡◌, ◌↔◌, inl, inr, ℕ, zero, suc, ◌+◌, ◌*◌, ◌<◌, ◌≤◌, ℤ, pos, ◌+ℤ◌, ◌-ℤ◌, ◌≤ℤ◌, ◌<ℤ◌, List, [], ◌∷◌, length, map, slice_get, Some, Bool, true, false, ◌==◌, refl, sym, subst, ap, ◌∙◌, arith, eq-eqb, if◌then◌else◌}
+use Rattle.std.specs.Prelude.{◌^◌}
 use Rattle.std.proofs.lemmas.List.{length-map}
 use Rattle.std.proofs.lemmas.Bool.{eqb-true}
 use Rattle.std.proofs.lemmas.Int.{ints}

@@ -1,14 +1,8 @@
 // The command `pla`: a specification in, the CIF text of its programmable logic array out.
 
-ghost use Rattle.std.specs.Prelude.{◌≡◌, ◌≤◌, ◌↔◌, ℕ, List, true, length, All, IfErr, IfOk};
+ghost use Rattle.std.specs.Prelude.{◌≡◌, ◌≤◌, true, length, All, IfErr, IfOk};
 ghost use Rattle.rx_lang.specs.Positions.{occurrence_symbols};
 ghost use Rattle.rx_lang.specs.Tables.{IsSpecification, specification};
-ghost use Rattle.rx_lang.specs.Specification.{Language};
-ghost use Rattle.rx_lang.specs.Vector.{Bits};
-ghost use Rattle.nor_net.specs.SwitchForm.{switch_form};
-ghost use Rattle.position_nfa.specs.Registers.{register_netlist};
-ghost use Rattle.position_nfa.specs.Runs.{ShowsByStates};
-ghost use Rattle.pla_plan.specs.ArrayNetworks.{IsRecogniser};
 ghost use Rattle.rx_text.specs.Name.{is_name};
 ghost use Rattle.cif_write.specs.ChipText.{chip_text};
 ghost use Rattle.rxc_program.specs.Behaviour.{most_input_bytes};
@@ -24,19 +18,16 @@ use cif_write::{chip_texts_draw, write_cif};
 use geom::Chip;
 use micro_tiles::laws::tiles_keep_inside;
 use nmos_model::laws::equal_drawings_are_alike;
-use nor_net::to_switch;
-use pla_plan::array_laws::{arrays_recognise, automata_make_arrays};
+use pla_plan::array_laws::automata_make_arrays;
 use pla_plan::laws::planes_are_plans;
 use pla_plan::{pad_labels, plan};
-use position_nfa::laws::automata_show_the_languages;
-use position_nfa::{Nfa, positions, register_net};
+use position_nfa::positions;
 use rx_io::{Sink, Source};
 use rx_lang::Spec;
 use rx_syntax::laws::{accepted_names_are_names, accepted_specifications_have_few_symbols};
 use rx_text::NoMemory;
 use star_normal::normalize;
 use std::alloc::Global;
-use switch_net::Network;
 
 /// The most symbols in the expressions of a specification.
 const MOST_LEAVES: u32 = 256;
@@ -86,29 +77,16 @@ fn array_chip(alloc: Global, spec: &Spec) -> Result<Chip, NoMemory>
     requires outputs { All (λ name. is_name name ≡ true) spec.now.outputs }
     ensures { IfOk result (λ chip. IsFileOf pla_file (specification spec.now) (chip_text chip)) }
 {
-    automata_show_the_languages();
     automata_make_arrays();
     planes_are_plans();
     tiles_keep_inside();
-    arrays_recognise();
     chip_texts_draw();
     equal_drawings_are_alike::<DrawnArray, WrittenChip>();
     let tree = normalize(alloc, spec)?;
     let nfa = positions(alloc, &tree)?;
-    let _network = register_network(alloc, &nfa, spec)?;
     let array = plan(alloc, &nfa, spec)?;
     let labels = pad_labels(alloc, &nfa, spec)?;
     array.chip(alloc, labels)
-}
-
-/// The switch network of the registers of the automaton. Nothing reads it: it is made for what its contract tells of the array.
-fn register_network(alloc: Global, nfa: &Nfa, spec: &Spec) -> Result<Network, NoMemory>
-    ensures form { IfOk result (λ network. network ≡ switch_form (register_netlist nfa.now spec.now)) }
-    ensures languages { IfOk result (λ network. ((y : ℕ) (u : List Bits) → ShowsByStates nfa.now spec.now.symbols y u ↔ Language (specification spec.now) y u)
-        → IsRecogniser (specification spec.now) network) }
-{
-    let net = register_net(alloc, nfa, spec)?;
-    to_switch(alloc, &net)
 }
 
 /// Writes the text of the chip.

@@ -1,7 +1,10 @@
 use Rattle.std.proofs.Common.{subst}
 use Rattle.rx_lang.specs.Tables.{specification}
+use Rattle.stick_grid.specs.Plans.{Covers}
 use Rattle.position_nfa.specs.Automaton.{IsAutomaton}
-use Rattle.pla_plan.specs.ArrayNetworks.{IsRecogniser}
+use Rattle.pla_plan.specs.Planes.{planes_plan}
+use Rattle.pla_plan.specs.ArrayOf.{array_of}
+use Rattle.pla_plan.specs.ArrayNetworks.{DrawsRecogniser}
 use Rattle.rxc_program.proofs.ArrayFiles.{array_files, few_positions}
 use Rattle.rxc_program.proofs.pla.array_chip.Goals as goal
 
@@ -14,14 +17,13 @@ returns c =
     let automaton = c.in_ok-nfa.ensures.automaton (specification tables)
     (record { leaves = c.in_ok-tree.ensures.leaves; letters = c.in_ok-tree.ensures.letters; scan_letters = c.in_ok-tree.ensures.scan_letters }) in
     let few = few_positions (specification tables) nfa automaton c.requires.few in
-    let made = c.in_ok-_network.ensures in
-    let recogniser = subst (IsRecogniser (specification tables)) made.form
-    (made.languages (c.automata_show_the_languages.ensures tables nfa c.requires.tables automaton)) in
     let array = c.automata_make_arrays.ensures nfa tables sound c.requires.tables few in
+    let labels = c.in_ok-labels.ensures in
+    let shows =
+    subst (λ ls. DrawsRecogniser (specification tables) (Covers (planes_plan (array_of nfa tables))) ls) labels.labels
+    (labels.recogniser few automaton) in
     array_files nfa tables c.requires.lines c.requires.outputs c.chip_texts_draw.ensures array
-    (c.planes_are_plans.ensures _ array) c.tiles_keep_inside.ensures
-    (c.arrays_recognise.ensures nfa tables sound c.requires.tables few recogniser)
-    recogniser.pads
-    c.in_ok-array.array _ c.in_ok-array.ensures c.in_ok-labels.ensures
+    (c.planes_are_plans.ensures _ array) c.tiles_keep_inside.ensures shows
+    c.in_ok-array.array _ c.in_ok-array.ensures labels.labels
     (λ chip. c.equal_drawings_are_alike.ensures.networks (record { array = c.in_ok-array.array }) (record { chip = chip }))
     c.chip.result c.chip.ensures.squares c.chip.ensures.labels c.chip.ensures.rows
