@@ -25,6 +25,7 @@ pub mod ArrayPart
 pub mod ArrayTerms
 pub mod ArraySums
 pub mod ArrayFits
+pub mod Filled
 pub mod ArrayLoads
 pub mod ArrayDevices
 pub mod ArraySame
