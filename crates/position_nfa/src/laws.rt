@@ -1,6 +1,6 @@
 //! Laws of position automata. Each is the contract of a function that does nothing.
 
-ghost use Rattle.std.specs.Prelude.{◌<◌, All, ◌↔◌, ℕ, List};
+ghost use Rattle.std.specs.Prelude.{◌<◌, All, ◌↔◌, ℕ, List, length};
 ghost use Rattle.rx_lang.specs.Positions.{HasTerms};
 ghost use Rattle.rx_lang.specs.Specification.{Language, Specification};
 ghost use Rattle.rx_lang.specs.Tables.{IsSpecification, Tables, specification};
@@ -8,6 +8,7 @@ ghost use Rattle.rx_lang.specs.Vector.{Bits};
 ghost use Rattle.position_nfa.specs.Agreement.{IsAutomatonOf};
 ghost use Rattle.position_nfa.specs.Automaton.{Automaton, IsAutomaton};
 ghost use Rattle.position_nfa.specs.Reached.{IsReadByPairs};
+ghost use Rattle.position_nfa.specs.Registers.{registers_of};
 ghost use Rattle.position_nfa.specs.Runs.{ShowsByStates};
 ghost use Rattle.position_nfa.specs.Terms.{term_count};
 
@@ -18,6 +19,12 @@ use rx_lang::laws::{copies_mean_their_repeats, trees_are_made_of_their_children}
 pub fn terms_are_those_of_the_specification()
     ensures { (spec : Specification) (nfa : Automaton) → IsAutomaton nfa → All (λ s. s < 256) nfa.symbols → IsAutomatonOf spec nfa
         → HasTerms spec (term_count nfa) }
+{}
+
+/// The registers of a specification's automaton have one gate for each of the specification's terms, where its symbols are declared.
+pub fn registers_have_the_terms()
+    ensures { (nfa : Automaton) (tables : Tables) → IsAutomaton nfa → IsSpecification tables → IsAutomatonOf (specification tables) nfa
+        → All (λ s. s < length tables.symbols) nfa.symbols → HasTerms (specification tables) (length (registers_of nfa tables).terms) }
 {}
 
 /// The states of a specification are reached one from another by pairs of occurrences, and the language of an output is what
