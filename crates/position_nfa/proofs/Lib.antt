@@ -15,6 +15,7 @@ pub mod Finished
 pub mod Built
 pub mod Counted
 pub mod TermLists
+pub mod DeclaredSymbols
 pub mod RegisterTerms
 pub mod RowSteps
 pub mod Adding

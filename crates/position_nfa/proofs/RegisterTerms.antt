@@ -18,24 +18,24 @@ use Rattle.position_nfa.proofs.TermLists.{has_terms}
 
 -- ---- lists
 
--- pieces of at most one element, counted
-count_pieces : {A B : Type 0} (f : A → List B) (p : A → Bool) → ((x : A) → length (f x) ≡ one_if (p x)) → (xs : List A)
-    → length (flat_map f xs) ≡ count_by p xs
-count_pieces f p e [] = refl
-count_pieces f p e (x ∷ xs) =
-    omega (arith, length-append (f x) (flat_map f xs), sum_by-cons (λ y. one_if (p y)) x xs, e x, count_pieces f p e xs)
-
 sum_pieces : {A B : Type 0} (f : A → List B) (g : A → ℕ) → ((x : A) → length (f x) ≡ g x) → (xs : List A) → length (flat_map f xs) ≡ sum_by g xs
 sum_pieces f g e [] = refl
 sum_pieces f g e (x ∷ xs) = omega (arith, length-append (f x) (flat_map f xs), sum_by-cons g x xs, e x, sum_pieces f g e xs)
+
+-- pieces of at most one element
+count_pieces : {A B : Type 0} (f : A → List B) (p : A → Bool) → ((x : A) → length (f x) ≡ one_if (p x)) → (xs : List A)
+    → length (flat_map f xs) ≡ count_by p xs
+count_pieces f p e xs = sum_pieces f (λ x. one_if (p x)) e xs
 
 -- numbers from m on count nothing
 count_none : (p : ℕ → Bool) (a n : ℕ) → ((s : ℕ) → a ≤ s → p s ≡ false) → count_by p (range_with_len a n) ≡ 0
 count_none p a zero h = refl
 count_none p a (suc n) h =
-    omega (arith, sum_by-cons (λ s. one_if (p s)) a (range_with_len (a + 1) n), ap one_if (h a (omega arith)), count_none p (a + 1) n (λ s l. h s (omega arith)))
+    let rest = count_none p (a + 1) n (λ s l. h s (omega arith)) in
+    omega (arith, sum_by-cons (λ s. one_if (p s)) a (range_with_len (a + 1) n), ap one_if (h a (omega arith)), rest)
 
-count_below : (p : ℕ → Bool) (a m n : ℕ) → m ≤ n → ((s : ℕ) → a + m ≤ s → p s ≡ false) → count_by p (range_with_len a m) ≡ count_by p (range_with_len a n)
+count_below : (p : ℕ → Bool) (a m n : ℕ) → m ≤ n → ((s : ℕ) → a + m ≤ s → p s ≡ false)
+    → count_by p (range_with_len a m) ≡ count_by p (range_with_len a n)
 count_below p a zero n l h = sym (count_none p a n (λ s k. h s (omega arith)))
 count_below p a (suc m) zero l h = absurd (omega arith)
 count_below p a (suc m) (suc n) l h =
@@ -54,7 +54,8 @@ reads_below m q [] some h = omega arith
 reads_below m zero (s ∷ symbols) some h = h.0
 reads_below m (suc q) (s ∷ symbols) some h = reads_below m q symbols some h.1
 
-none_beyond : (m : ℕ) (symbols positions : List ℕ) → 1 ≤ m → AllByRecursion (λ s. s < m) symbols → (s : ℕ) → m ≤ s → occurs symbols positions s ≡ false
+none_beyond : (m : ℕ) (symbols positions : List ℕ) → 1 ≤ m → AllByRecursion (λ s. s < m) symbols → (s : ℕ) → m ≤ s
+    → occurs symbols positions s ≡ false
 none_beyond m symbols [] some h s l = refl
 none_beyond m symbols (q ∷ positions) some h s l =
     let below = reads_below m q symbols some h in
@@ -96,11 +97,12 @@ module _ (nfa : Automaton) where
 gates_counted : (c : ArrayCounts) (symbols : List NamedPattern) (going : List Step) (marked : List State)
     → length (term_gates c symbols going marked) ≡ length going + length marked
 gates_counted c symbols going marked =
+    let marks = mark_gate c (length going) marked in
     omega (
       arith,
-      length-append (map (step_gate c symbols going) (range_with_len 0 (length going))) (map (mark_gate c (length going) marked) (range_with_len 0 (length marked))),
+      length-append (map (step_gate c symbols going) (range_with_len 0 (length going))) (map marks (range_with_len 0 (length marked))),
       length-map-range_with_len (step_gate c symbols going) 0 (length going),
-      length-map-range_with_len (mark_gate c (length going) marked) 0 (length marked),
+      length-map-range_with_len marks 0 (length marked),
     )
 
 pub registers_have_terms : (nfa : Automaton) (tables : Tables) → IsAutomaton nfa → IsSpecification tables → IsAutomatonOf (specification tables) nfa

@@ -21,11 +21,13 @@ pub fn terms_are_those_of_the_specification()
         → HasTerms spec (term_count nfa) }
 {}
 
-/// The registers of a specification's automaton have one gate for each of the specification's terms, where its symbols are declared.
+/// The registers of a specification's automaton have one gate for each of the specification's terms.
 pub fn registers_have_the_terms()
     ensures { (nfa : Automaton) (tables : Tables) → IsAutomaton nfa → IsSpecification tables → IsAutomatonOf (specification tables) nfa
-        → All (λ s. s < length tables.symbols) nfa.symbols → HasTerms (specification tables) (length (registers_of nfa tables).terms) }
-{}
+        → HasTerms (specification tables) (length (registers_of nfa tables).terms) }
+{
+    trees_are_made_of_their_children();
+}
 
 /// The states of a specification are reached one from another by pairs of occurrences, and the language of an output is what
 /// leads to the states that show it (Glushkov, 1961).
