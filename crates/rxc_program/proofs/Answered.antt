@@ -64,6 +64,7 @@ module _ {Sink : Type 0} (sink : Change Sink) (text : List ℕ) where
           network = network;
         };
         compiled = of;
+        sides = tt;
       };
     }
 

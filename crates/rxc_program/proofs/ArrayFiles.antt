@@ -1,5 +1,5 @@
 -- The text of the chip of an array is a file of its specification.
-use Rattle.std.proofs.Common.{◌≡◌, ◌↔◌, ℕ, ◌≤◌, true, ℤ, List, length, All, Result, Ok, Err, sym, ◌∙◌, subst}
+use Rattle.std.proofs.Common.{◌≡◌, ◌↔◌, ℕ, ◌≤◌, true, ℤ, List, length, ◌*◌, All, Result, Ok, Err, ap, sym, ◌∙◌, subst}
 use Rattle.std.specs.Prelude.{IfOk}
 use Rattle.geom.specs.declared.layer.Layer.{Layer}
 use Rattle.geom.specs.declared.chip.Label.{Label}
@@ -10,7 +10,7 @@ use Rattle.cif_write.specs.ChipText.{chip_text}
 use Rattle.cif_write.specs.WrittenChips.{ChipTextsDraw, IsWritable, IsWritableLabel, chip_boxes}
 use Rattle.rx_text.specs.Name.{is_name}
 use Rattle.rx_lang.specs.Specification.{Specification}
-use Rattle.rx_lang.specs.Positions.{occurrence_symbols}
+use Rattle.rx_lang.specs.Positions.{HasTerms, occurrence_symbols}
 use Rattle.micro_tiles.specs.Shapes.{TilesKeepInside}
 use Rattle.rx_lang.specs.Tables.{Tables, specification}
 use Rattle.position_nfa.specs.Agreement.{IsAutomatonOf}
@@ -21,7 +21,9 @@ use Rattle.stick_grid.specs.Plans.{Plan, IsPlan, Covers}
 use Rattle.pla_plan.specs.Planes.{PlaneTables, planes_plan}
 use Rattle.pla_plan.specs.ArrayOf.{array_of}
 use Rattle.pla_plan.specs.RowChips.{IsRowChip}
-use Rattle.pla_plan.specs.ArrayNetworks.{DrawsRecogniser, array_labels}
+use Rattle.pla_plan.specs.ArrayNetworks.{DrawsRecogniser, HasSizes, array_labels}
+use Rattle.pla_plan.specs.Filled.{FillsTiles}
+use Rattle.rxc_program.proofs.TileBoxes.{tiles_box, tiles_box_of}
 use Rattle.pla_plan.specs.Fits.{IsArray}
 use Rattle.position_nfa.specs.Registers.{array_counts, array_pads}
 use Rattle.rxc_program.proofs.ArrayLabels.{array_pads_named, labels_written}
@@ -37,7 +39,10 @@ few_positions spec nfa automaton few = subst (λ (symbols : List ℕ). length sy
 module _ (nfa : Automaton) (tables : Tables)
     (lines : All (λ name. is_name name ≡ true) tables.lines) (outputs : All (λ name. is_name name ≡ true) tables.outputs) (texts : ChipTextsDraw)
     (array : IsArray (array_of nfa tables)) (plan_is : IsPlan (planes_plan (array_of nfa tables))) (inside : TilesKeepInside)
-    (shows : DrawsRecogniser (specification tables) (Covers (planes_plan (array_of nfa tables))) (array_labels nfa tables)) where
+    (sizes : HasSizes (specification tables) (array_of nfa tables))
+    (has_terms : HasTerms (specification tables) (length (array_of nfa tables).terms))
+    (shows : DrawsRecogniser (specification tables) (Covers (planes_plan (array_of nfa tables))) (array_labels nfa tables))
+    (fills : FillsTiles (Covers (planes_plan (array_of nfa tables))) (array_of nfa tables).cols (array_of nfa tables).rows) where
   abbrev plan : Plan
   plan = planes_plan (array_of nfa tables)
 
@@ -62,6 +67,19 @@ module _ (nfa : Automaton) (tables : Tables)
       circuit = shows.circuit;
       stands = record { boxes = chip_boxes chip; labels = chip.labels; draws = texts.drawn chip writable; stands = stands };
       compiled = record { pads = shows.recogniser.pads; recognises = shows.recogniser.recognises; sure = shows.recogniser.sure };
+      sides = record {
+        terms = length (array_of nfa tables).terms;
+        has_terms = has_terms;
+        drawn = record {
+          boxes = chip_boxes chip;
+          labels = chip.labels;
+          draws = texts.drawn chip writable;
+          box = tiles_box (array_of nfa tables).cols (array_of nfa tables).rows;
+          box_of = tiles_box_of (Covers plan) (chip_boxes chip) (array_of nfa tables).cols (array_of nfa tables).rows cover_alike fills;
+          width_is = ap (λ n. 14 * n) sizes.cols;
+          height_is = ap (λ n. 14 * n) sizes.rows;
+        };
+      };
     }
 
   -- the text of the chip, if it was made, is a file of the specification

@@ -9,6 +9,7 @@ pub mod Files
 pub mod Answered
 pub mod Promised
 pub mod WrittenBoxes
+pub mod TileBoxes
 pub mod PlanSquares
 pub mod WrittenRows
 pub mod ArrayLabels

@@ -1,9 +1,12 @@
 -- Files of networks that recognise the languages of a specification.
-use Rattle.std.specs.Prelude.{ℕ, List, length}
+use Rattle.std.specs.Prelude.{◌≡◌, ⊤, ℕ, ◌*◌, List, length}
 use Rattle.geom.specs.declared.chip.Label.{Label}
+use Rattle.geom.specs.declared.chip.Rect.{Rect}
 use Rattle.geom.specs.Squares.{BoxShape, Covered}
+use Rattle.geom.specs.Chips.{IsBoxOf}
 use Rattle.geom.specs.CifRefusals.{DrawsCif}
 use Rattle.rx_lang.specs.Specification.{Specification, Language}
+use Rattle.rx_lang.specs.Positions.{HasTerms, array_rows, array_columns}
 use Rattle.switch_net.specs.Circuit.{Circuit}
 use Rattle.switch_net.specs.Recognition.{HasPads, Recognises, ShowsSurely}
 use Rattle.net_text.specs.NetworkText.{IsNetworkText}
@@ -18,6 +21,8 @@ pub data FileKind : Type 0 where
 abbrev pub most_leaves : FileKind → ℕ
 most_leaves network_file = 4096
 most_leaves pla_file = 256
+
+-- ---- what a file stands for
 
 -- The file is a CIF text, and the squares of the boxes that it draws, with its labels, stand for this circuit.
 pub record DrawsNetwork (file : List ℕ) (circuit : Circuit) : Type 0 where
@@ -38,8 +43,32 @@ pub record IsNetworkOf (spec : Specification) (circuit : Circuit) : Type 0 where
   pub recognises : Recognises circuit (length spec.lines) (Language spec)
   pub sure : ShowsSurely circuit (length spec.lines) (Language spec)
 
--- The file is of this kind, and stands for a network of the specification.
+-- ---- how large what it draws is
+
+-- The file is a CIF text, and the box of the boxes that it draws has these sides, in λ.
+pub record DrawsBox (file : List ℕ) (width height : ℕ) : Type 0 where
+  pub boxes : List BoxShape
+  pub labels : List Label
+  pub draws : DrawsCif file boxes labels
+  pub box : Rect
+  pub box_of : IsBoxOf boxes box
+  pub width_is : box.width ≡ width
+  pub height_is : box.height ≡ height
+
+-- The box of a programmable logic array with as many terms as the specification asks for: 14 λ for each of its columns and rows.
+pub record HasArraySides (spec : Specification) (file : List ℕ) : Type 0 where
+  pub terms : ℕ
+  pub has_terms : HasTerms spec terms
+  pub drawn : DrawsBox file (14 * array_columns spec) (14 * array_rows spec terms)
+
+-- The file is as large as one of its kind is for the specification.
+abbrev pub HasSides : FileKind → Specification → List ℕ → Type 0
+HasSides network_file spec file = ⊤
+HasSides pla_file spec file = HasArraySides spec file
+
+-- The file is of this kind, and stands for a network of the specification; of a PLA file the area is that of its formula.
 pub record IsFileOf (kind : FileKind) (spec : Specification) (file : List ℕ) : Type 0 where
   pub circuit : Circuit
   pub stands : FileStandsFor kind file circuit
   pub compiled : IsNetworkOf spec circuit
+  pub sides : HasSides kind spec file

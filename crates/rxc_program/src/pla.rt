@@ -18,9 +18,10 @@ use cif_write::{chip_texts_draw, write_cif};
 use geom::Chip;
 use micro_tiles::laws::tiles_keep_inside;
 use nmos_model::laws::equal_drawings_are_alike;
-use pla_plan::array_laws::automata_make_arrays;
+use pla_plan::array_laws::{arrays_fill, arrays_have_sizes, automata_make_arrays};
 use pla_plan::laws::planes_are_plans;
 use pla_plan::{pad_labels, plan};
+use position_nfa::laws::registers_have_the_terms;
 use position_nfa::positions;
 use rx_io::{Sink, Source};
 use rx_lang::Spec;
@@ -78,6 +79,9 @@ fn array_chip(alloc: Global, spec: &Spec) -> Result<Chip, NoMemory>
     ensures { IfOk result (λ chip. IsFileOf pla_file (specification spec.now) (chip_text chip)) }
 {
     automata_make_arrays();
+    arrays_have_sizes();
+    arrays_fill();
+    registers_have_the_terms();
     planes_are_plans();
     tiles_keep_inside();
     chip_texts_draw();

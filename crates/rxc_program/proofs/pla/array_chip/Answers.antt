@@ -22,8 +22,11 @@ returns c =
     let shows =
     subst (λ ls. DrawsRecogniser (specification tables) (Covers (planes_plan (array_of nfa tables))) ls) labels.labels
     (labels.recogniser few automaton) in
+    let sizes = c.arrays_have_sizes.ensures nfa tables automaton in
+    let terms = c.registers_have_the_terms.ensures nfa tables sound c.requires.tables automaton in
+    let fills = c.arrays_fill.ensures nfa tables sound c.requires.tables few in
     array_files nfa tables c.requires.lines c.requires.outputs c.chip_texts_draw.ensures array
-    (c.planes_are_plans.ensures _ array) c.tiles_keep_inside.ensures shows
+    (c.planes_are_plans.ensures _ array) c.tiles_keep_inside.ensures sizes terms shows fills
     c.in_ok-array.array _ c.in_ok-array.ensures labels.labels
     (λ chip. c.equal_drawings_are_alike.ensures.networks (record { array = c.in_ok-array.array }) (record { chip = chip }))
     c.chip.result c.chip.ensures.squares c.chip.ensures.labels c.chip.ensures.rows
