@@ -7,28 +7,7 @@ use Rattle.geom.specs.Squares.{BoxShape, Covered}
 use Rattle.geom.specs.Chips.{InRect, IsTileEdge, HoldsInTiles, IsBoxOf}
 use Rattle.geom.specs.Conduction.{Drawing}
 use Rattle.nmos_model.specs.Alike.{CoverAlike}
-
--- the drawing covers a square in a layer
-pub record CoveredSquare (Drawn : Drawing) : Type 0 where
-  pub layer : Layer
-  pub x : ℤ
-  pub y : ℤ
-  pub covered : Drawn layer x y
-
--- the squares lie in so many columns and rows of tiles, and there are some in each outermost one
-pub record FillsTiles (Drawn : Drawing) (cols rows : ℕ) : Type 0 where
-  pub left : (layer : Layer) (x y : ℤ) → Drawn layer x y → pos 0 ≤ℤ x
-  pub right : (layer : Layer) (x y : ℤ) → Drawn layer x y → x <ℤ pos (14 * cols)
-  pub bottom : (layer : Layer) (x y : ℤ) → Drawn layer x y → pos 0 ≤ℤ y
-  pub top : (layer : Layer) (x y : ℤ) → Drawn layer x y → y <ℤ pos (14 * rows)
-  pub west : CoveredSquare Drawn
-  pub westernmost : west.x <ℤ pos 14
-  pub east : CoveredSquare Drawn
-  pub easternmost : pos (14 * cols) ≤ℤ (east.x +ℤ pos 14)
-  pub south : CoveredSquare Drawn
-  pub southernmost : south.y <ℤ pos 14
-  pub north : CoveredSquare Drawn
-  pub northernmost : pos (14 * rows) ≤ℤ (north.y +ℤ pos 14)
+use Rattle.pla_plan.specs.Filled.{FillsTiles}
 
 -- so many columns and rows of tiles
 abbrev pub tiles_box : ℕ → ℕ → Rect
