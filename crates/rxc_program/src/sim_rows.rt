@@ -6,7 +6,7 @@ use crate::status::Code;
 pub(crate) const INVERTER: &[u8] =
     b"rxnet 1\nnets 7\nvdd 0\ngnd 1\nphi1 2\nphi2 3\nreset 4\nin x 5\nout z 6\npass 5 6 1\nload 6\nend\n";
 
-/// Runs of `sim`.
+/// Runs of `sim` to their end, and on traces as long as one may be or longer.
 pub(crate) const SIM_ROWS: &[Row] = &[
     Row {
         words: &[b"sim"],
@@ -177,6 +177,50 @@ pub(crate) const SIM_ROWS: &[Row] = &[
         output: Output::Is(b"0 x\n1 x\n"),
         log: b"",
     },
+    Row {
+        words: &[b"sim"],
+        input: Input::Repeated(
+            b"",
+            b"1\n",
+            10_000,
+            b"chip\nrxnet 1\nnets 7\nvdd 0\ngnd 1\nphi1 2\nphi2 3\nreset 4\nin x 5\nout z 6\npass 5 6 1\nload 6\nend\n",
+        ),
+        end: End::Done,
+        output: Output::Holds(b"0 1\n1 0\n", b"\n5000 0\n", b"\n9999 0\n10000 0\n"),
+        log: b"",
+    },
+    Row {
+        words: &[b"sim"],
+        input: Input::Repeated(b"", b"1\n", 10_000, b"1\nchip\n"),
+        end: End::Refused(Code::V3, 10001, 1),
+        output: NOTHING,
+        log: b"rxc: V3 TooManyVectors at 10001:1\n",
+    },
+    Row {
+        words: &[b"sim"],
+        input: Input::Repeated(b"", b"1\n", 10_000, b"x\nchip\n"),
+        end: End::Refused(Code::V1, 10001, 1),
+        output: NOTHING,
+        log: b"rxc: V1 BadBit at 10001:1\n",
+    },
+    Row {
+        words: &[b"sim"],
+        input: Input::Repeated(b"", b"1\n", 10_000, b"1x\nchip\n"),
+        end: End::Refused(Code::V3, 10001, 1),
+        output: NOTHING,
+        log: b"rxc: V3 TooManyVectors at 10001:1\n",
+    },
+    Row {
+        words: &[b"sim"],
+        input: Input::Repeated(b"", b"1\n", 10_000, b""),
+        end: End::Refused(Code::V4, 10001, 1),
+        output: NOTHING,
+        log: b"rxc: V4 NoChip at 10001:1\n",
+    },
+];
+
+/// Runs of `sim` that are refused.
+pub(crate) const REFUSED_SIM_ROWS: &[Row] = &[
     Row {
         words: &[b"sim"],
         input: Input::Text(b""),
@@ -404,45 +448,5 @@ pub(crate) const SIM_ROWS: &[Row] = &[
         end: End::Refused(Code::V4, 2, 5),
         output: NOTHING,
         log: b"rxc: V4 NoChip at 2:5\n",
-    },
-    Row {
-        words: &[b"sim"],
-        input: Input::Repeated(
-            b"",
-            b"1\n",
-            10_000,
-            b"chip\nrxnet 1\nnets 7\nvdd 0\ngnd 1\nphi1 2\nphi2 3\nreset 4\nin x 5\nout z 6\npass 5 6 1\nload 6\nend\n",
-        ),
-        end: End::Done,
-        output: Output::Holds(b"0 1\n1 0\n", b"\n5000 0\n", b"\n9999 0\n10000 0\n"),
-        log: b"",
-    },
-    Row {
-        words: &[b"sim"],
-        input: Input::Repeated(b"", b"1\n", 10_000, b"1\nchip\n"),
-        end: End::Refused(Code::V3, 10001, 1),
-        output: NOTHING,
-        log: b"rxc: V3 TooManyVectors at 10001:1\n",
-    },
-    Row {
-        words: &[b"sim"],
-        input: Input::Repeated(b"", b"1\n", 10_000, b"x\nchip\n"),
-        end: End::Refused(Code::V1, 10001, 1),
-        output: NOTHING,
-        log: b"rxc: V1 BadBit at 10001:1\n",
-    },
-    Row {
-        words: &[b"sim"],
-        input: Input::Repeated(b"", b"1\n", 10_000, b"1x\nchip\n"),
-        end: End::Refused(Code::V3, 10001, 1),
-        output: NOTHING,
-        log: b"rxc: V3 TooManyVectors at 10001:1\n",
-    },
-    Row {
-        words: &[b"sim"],
-        input: Input::Repeated(b"", b"1\n", 10_000, b""),
-        end: End::Refused(Code::V4, 10001, 1),
-        output: NOTHING,
-        log: b"rxc: V4 NoChip at 10001:1\n",
     },
 ];

@@ -1,7 +1,7 @@
 //! Runs of the program over memory: each row of the tables, and inputs that are cut or noise.
 use crate::pla_rows::PLA_ROWS;
 use crate::rows::{FAILING, FRONTS, Failing, Input, Output, ROWS, Row, status_of};
-use crate::sim_rows::SIM_ROWS;
+use crate::sim_rows::{REFUSED_SIM_ROWS, SIM_ROWS};
 use crate::status::Status;
 use crate::words::RxWord;
 use crate::{exit_code, rxc};
@@ -122,6 +122,11 @@ fn runs_come_out(rt: HostRuntime) -> Result<(), Fail> {
 #[test]
 fn simulations_come_out(rt: HostRuntime) -> Result<(), Fail> {
     rows_come_out(&rt, rt.alloc(), SIM_ROWS)
+}
+
+#[test]
+fn refused_simulations_come_out(rt: HostRuntime) -> Result<(), Fail> {
+    rows_come_out(&rt, rt.alloc(), REFUSED_SIM_ROWS)
 }
 
 #[test]
