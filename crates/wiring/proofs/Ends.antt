@@ -24,11 +24,13 @@ begins : (a col : ℕ) → col ≡ a → Begins (Some a) col false true true
 begins a col e = record { is_west = le-ltb a col (omega arith); is_east = lt-ltb a (col + 1) (omega arith); is_there = eq-eqb a col (sym e) }
 
 to_begin : (a col : ℕ) → col < a → Begins (Some a) col false false false
-to_begin a col h = record { is_west = le-ltb a col (omega arith); is_east = le-ltb a (col + 1) (omega arith); is_there = ne_eqb a col (λ e. omega arith) }
+to_begin a col h =
+    record { is_west = le-ltb a col (omega arith); is_east = le-ltb a (col + 1) (omega arith); is_there = ne_eqb a col (λ e. omega arith) }
 
 goes_on : (to : Option ℕ) (col : ℕ) → IsWestOf to col → Ends to col true true false
 goes_on None col h = record { is_west = refl; is_east = refl; is_there = refl }
-goes_on (Some b) col h = record { is_west = le-leb col b (omega arith); is_east = le-leb (col + 1) b (omega arith); is_there = ne_eqb b col (λ e. omega arith) }
+goes_on (Some b) col h =
+    record { is_west = le-leb col b (omega arith); is_east = le-leb (col + 1) b (omega arith); is_there = ne_eqb b col (λ e. omega arith) }
 
 ends : (b col : ℕ) → col ≡ b → Ends (Some b) col true false true
 ends b col e = record { is_west = le-leb col b (omega arith); is_east = lt-leb (col + 1) b (omega arith); is_there = eq-eqb b col (sym e) }

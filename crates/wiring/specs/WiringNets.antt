@@ -11,7 +11,8 @@ use Rattle.wiring.specs.Wirings.{Span, Run, Wiring, wiring_plan, wiring_border, 
 -- The spans go from north to south, from a border on, with a border that none crosses between each two; their nets are below the count.
 abbrev pub AreSpans : ℕ → ℕ → ℕ → List Span → Type 0
 AreSpans rows count from [] = ⊤
-AreSpans rows count from (s ∷ spans) = (from ≤ s.first) × (s.first ≤ s.last) × (s.last ≤ rows) × (s.net < count) × AreSpans rows count (s.last + 2) spans
+AreSpans rows count from (s ∷ spans) =
+    (from ≤ s.first) × (s.first ≤ s.last) × (s.last ≤ rows) × (s.net < count) × AreSpans rows count (s.last + 2) spans
 
 -- The span is one of these.
 abbrev pub IsOneOf : List Span → Span → Type 0

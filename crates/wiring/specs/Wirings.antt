@@ -73,7 +73,8 @@ wire_tile false true true false true = tiles.WestToPolySouth
 wire_tile _ _ _ _ _ = tiles.Empty
 
 abbrev pub wiring_basic : Wiring → ℕ → ℕ → Basic
-wiring_basic w row col = wire_tile (has_poly w row col) (has_poly w (row + 1) col) (has_metal w row col) (has_metal w row (col + 1)) (has_contact w row col)
+wiring_basic w row col =
+    wire_tile (has_poly w row col) (has_poly w (row + 1) col) (has_metal w row col) (has_metal w row (col + 1)) (has_contact w row col)
 
 abbrev pub wiring_tile : Wiring → ℕ → ℕ → ℕ
 wiring_tile w row col = number_named (wiring_basic w row col)
