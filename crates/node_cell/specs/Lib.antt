@@ -1,0 +1,4 @@
+-- Definitions that public contracts cite:
+pub mod Blocks
+pub mod BlockTiles
+pub mod BlockModules
