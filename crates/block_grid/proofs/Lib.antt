@@ -17,3 +17,8 @@ pub mod Laid
 pub mod Walks
 pub mod Lengthened
 pub mod Uncrossed
+pub mod BundleEdges
+pub mod GoneOn
+pub mod PortEdges
+pub mod EdgeEnds
+pub mod Leading
