@@ -17,3 +17,5 @@ pub mod Laid
 pub mod Walks
 pub mod Lengthened
 pub mod Uncrossed
+pub mod Marks
+pub mod Rastered

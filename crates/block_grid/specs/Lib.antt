@@ -3,3 +3,4 @@ pub mod Lines
 pub mod Sheets
 pub mod Laying
 pub mod Changes
+pub mod Raster
