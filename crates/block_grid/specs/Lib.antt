@@ -4,3 +4,4 @@ pub mod Sheets
 pub mod Laying
 pub mod Changes
 pub mod Raster
+pub mod Bundles
