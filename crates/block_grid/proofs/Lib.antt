@@ -17,6 +17,8 @@ pub mod Laid
 pub mod Walks
 pub mod Lengthened
 pub mod Uncrossed
+pub mod Marks
+pub mod Rastered
 pub mod BundleEdges
 pub mod GoneOn
 pub mod PortEdges

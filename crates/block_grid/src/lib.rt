@@ -5,6 +5,7 @@ pub mod blocks;
 pub mod edge;
 pub mod kind;
 pub mod laws;
+mod raster;
 pub mod standing;
 mod stretch;
 

@@ -1,0 +1,11 @@
+-- The borders that the edges so far cross are marked.
+use Rattle.std.proofs.Common.{◌≡◌, ◌+◌, ◌*◌, length, nat_lt, take}
+use Rattle.std.specs.List.{list_any}
+use Rattle.block_grid.specs.Raster.{Tells}
+use Rattle.block_grid.specs.Sheets.{west_of}
+use Rattle.block_grid.proofs.raster.wests.Given as goal
+
+abbrev pub invariant-loop-edge : goal.invariant-loop-edge
+invariant-loop-edge l =
+    (length l.marks.items ≡ (l.cols + 1) * l.rows)
+    × Tells l.rows l.marks.items (l.cols + 1) (λ col row. list_any (λ e. nat_lt 0 (west_of e row col)) (take l.edge-index l.edges))
