@@ -1,0 +1,7 @@
+mod Spans
+mod Ends
+mod Tiles
+mod WireTiles
+mod WirePaths
+mod WireNames
+mod WiringModules

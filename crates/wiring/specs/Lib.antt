@@ -1,2 +1,3 @@
 -- Definitions that public contracts cite:
 pub mod Wirings
+pub mod WiringNets

@@ -1,5 +1,5 @@
 -- Plans of wires: poly of nets in columns, metal of nets in rows, and contacts where metal ends.
-use Rattle.std.specs.Prelude.{◌≡◌, ◌⊎◌, ℕ, ◌+◌, ◌<◌, ◌≤◌, Bool, true, false, ◌&&◌, ◌||◌, ◌==◌, nat_lt, nat_le, Option, Some, None, List, All, AllPairs, find, if◌then◌else◌}
+use Rattle.std.specs.Prelude.{ℕ, ◌+◌, Bool, true, false, ◌&&◌, ◌||◌, ◌==◌, nat_lt, nat_le, Option, Some, None, List, find, if◌then◌else◌}
 use Rattle.std.specs.List.{list_any}
 use Rattle.std.specs.Option.{option_map, option_map_or}
 use Rattle.geom.specs.declared.layer.Layer.TheVariants as layers
@@ -73,7 +73,8 @@ wire_tile false true true false true = tiles.WestToPolySouth
 wire_tile _ _ _ _ _ = tiles.Empty
 
 abbrev pub wiring_basic : Wiring → ℕ → ℕ → Basic
-wiring_basic w row col = wire_tile (has_poly w row col) (has_poly w (row + 1) col) (has_metal w row col) (has_metal w row (col + 1)) (has_contact w row col)
+wiring_basic w row col =
+    wire_tile (has_poly w row col) (has_poly w (row + 1) col) (has_metal w row col) (has_metal w row (col + 1)) (has_contact w row col)
 
 abbrev pub wiring_tile : Wiring → ℕ → ℕ → ℕ
 wiring_tile w row col = number_named (wiring_basic w row col)
