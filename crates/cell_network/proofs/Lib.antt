@@ -32,3 +32,17 @@ pub mod TablePlaces
 pub mod Runs
 pub mod LeafSymbols
 pub mod PadNames
+pub mod HomeReads
+pub mod Above
+pub mod PortNets
+pub mod Drivers
+pub mod NodeDrivers
+pub mod TreeMeets
+pub mod Driven
+pub mod CellAssembly
+pub mod Permuted
+pub mod RenamedParts
+pub mod GateHomes
+pub mod LoadNets
+pub mod CellDevices
+pub mod TreeShapes

@@ -6,4 +6,6 @@ pub mod Parts
 pub mod Home
 pub mod Whole
 pub mod Meeting
+pub mod Assembled
+pub mod TreeParts
 pub mod Examples

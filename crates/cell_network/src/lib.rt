@@ -1,6 +1,7 @@
 //! The cells of a normal form: one for each node, with a register at each leaf.
 #![tactic(auto)]
 
+pub mod assembly_laws;
 mod home;
 pub mod laws;
 mod numbering;

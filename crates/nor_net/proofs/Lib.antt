@@ -13,3 +13,4 @@ pub mod Orders
 pub mod KnownNets
 pub mod KnownRuns
 pub mod SureOutputs
+pub mod SameAssemblies

@@ -7,3 +7,5 @@ pub mod Examples
 pub mod Equations
 pub mod Recognised
 pub mod Clearing
+pub mod Assembly
+pub mod PartShapes

@@ -1,6 +1,7 @@
-//! What holds of every netlist.
+//! What holds of every netlist, and of circuits that are put together from parts.
 
 ghost use Rattle.nor_net.specs.Equations.{ClocksSolve};
+ghost use Rattle.nor_net.specs.Assembly.{AssembliesAreSame};
 
 use switch_net::clocked_logic_settles;
 
@@ -12,3 +13,9 @@ pub fn clocks_solve_the_equations()
 {
     clocked_logic_settles();
 }
+
+/// Two circuits that are put together from the same parts, with the same meetings of ports and the same pads, are the same
+/// network.
+pub fn assemblies_are_the_same()
+    ensures { AssembliesAreSame }
+{}
