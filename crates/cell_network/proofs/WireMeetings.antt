@@ -67,7 +67,7 @@ module _ (tree : TreeTable) (tables : Tables) (t : IsTree tree) where
         let right = has_right (node_at tree.nodes a.which).kind b.which (rw (lt-ltb a.which n lt) at k.0) in
         let p = right.parts in
         moved a b (right_wire c b.net) p.r (rw (lt-ltb a.which n lt) at k.1) right.right
-            (right_meet tree tables t a.which p.l p.r lt p.is b.net h.wire)
+        (right_meet tree tables t a.which p.l p.r lt p.is b.net h.wire)
   ]
 
   wires_of_frame : (a b : PartNet) → a.which ≡ n → IsWireBelow tree tables a b → Meet a b
@@ -77,7 +77,7 @@ module _ (tree : TreeTable) (tables : Tables) (t : IsTree tree) where
         let same : tree.root ≡ b.which = cc in
         let net : a.net ≡ b.net = rw (e, le-ltb n n (omega arith)) at k.1 in
         moved a b b.net tree.root net same (subst (λ v. Meet (part_net v b.net) (part_net tree.root b.net)) (sym e)
-            (root_meet tree tables t b.net h.wire))
+        (root_meet tree tables t b.net h.wire))
     | inr k ↦ let none : ◌≡◌ {A = Option ℕ} None (Some b.which) = rw (e, le-ltb n n (omega arith)) at k.0 in absurd (cc)
   ]
 

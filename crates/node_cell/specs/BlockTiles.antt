@@ -138,7 +138,7 @@ abbrev pub pair_run : Counts → Bool → ℕ → Option Run
 pair_run c left_light row =
     if row == 1 then Some (run (Some (wire_col (inn_wire c))) (Some (wire_col (light_net c left_light (inn_wire c)))) (light_net c left_light (inn_wire c)))
     else if row == 2 then
-      Some (run (Some (wire_col (inn_wire c + 1))) (Some (wire_col (light_net c left_light (inn_wire c + 1)))) (light_net c left_light (inn_wire c + 1)))
+    Some (run (Some (wire_col (inn_wire c + 1))) (Some (wire_col (light_net c left_light (inn_wire c + 1)))) (light_net c left_light (inn_wire c + 1)))
     else east_runs c (heavy_net c left_light) row
 
 -- the foot of a node's block
