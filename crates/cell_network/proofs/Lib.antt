@@ -46,3 +46,4 @@ pub mod GateHomes
 pub mod LoadNets
 pub mod CellDevices
 pub mod TreeShapes
+pub mod WireMeetings

@@ -148,8 +148,7 @@ module _ (c : Counts) where
         is = λ i lt e.
             let same : 0 + k ≡ i = omega (arith, e) in
             same ∙ sym (child_other inn out i (λ f. omega (arith, f, kl, same)) (λ f. omega (arith, f, kl, same)));
-      }))
-      (
+      })) (
         record { low = omega arith; high = omega arith; is = λ i lt e. sym (child_inn inn out i (omega (arith, e))) },
         (record { low = omega arith; high = omega arith; is = λ i lt e. sym (child_out inn out i (omega (arith, e))) }, tt),
       ))

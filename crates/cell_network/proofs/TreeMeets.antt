@@ -260,11 +260,11 @@ module _ (tree : TreeTable) (tables : Tables) (t : IsTree tree) where
   meets_alike a b m =
       let named = tested tree tables a.which m.first_name b.which m.second_name m.named in
       elim (cases_lt a.which n) [
-    | inl lt ↦ node_alike a.which m.first_name a.net b.which m.second_name b.net lt named m.first_port m.second_port
-    | inr ge ↦
-        let known = m.first.known in
-        frame_alike a.which m.first_name a.net b.which m.second_name b.net (omega (arith, ge, known)) named m.first_port m.second_port
-  ]
+        | inl lt ↦ node_alike a.which m.first_name a.net b.which m.second_name b.net lt named m.first_port m.second_port
+        | inr ge ↦
+            let known = m.first.known in
+            frame_alike a.which m.first_name a.net b.which m.second_name b.net (omega (arith, ge, known)) named m.first_port m.second_port
+      ]
 
   -- ---- up to the frame
 

@@ -9,3 +9,5 @@ pub mod Meeting
 pub mod Assembled
 pub mod TreeParts
 pub mod Examples
+pub mod WireMeetings
+pub mod CellNetlists

@@ -4,6 +4,7 @@
 pub mod assembly_laws;
 mod home;
 pub mod laws;
+pub mod meeting_laws;
 mod numbering;
 mod part;
 mod part_net;

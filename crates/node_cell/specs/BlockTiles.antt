@@ -3,6 +3,7 @@ use Rattle.std.specs.Prelude.{ℕ, ◌+◌, ◌-◌, ◌*◌, ◌||◌, ◌==◌
 use Rattle.std.specs.List.{range_with_len}
 use Rattle.std.specs.Option.{option_map, option_map_or, option_and_then}
 use Rattle.rx_lang.specs.Tables.{Tables}
+use Rattle.star_normal.specs.declared.node.Node.{Node}
 use Rattle.star_normal.specs.declared.node.NodeKind.{NodeKind}
 use Rattle.star_normal.specs.declared.node.NodeKind.TheVariants.{Leaf, Seq, Alt}
 use Rattle.star_normal.specs.Tables.{TreeTable}
@@ -137,11 +138,11 @@ abbrev pub pair_run : Counts → Bool → ℕ → Option Run
 pair_run c left_light row =
     if row == 1 then Some (run (Some (wire_col (inn_wire c))) (Some (wire_col (light_net c left_light (inn_wire c)))) (light_net c left_light (inn_wire c)))
     else if row == 2 then
-      Some (run (Some (wire_col (inn_wire c + 1))) (Some (wire_col (light_net c left_light (inn_wire c + 1)))) (light_net c left_light (inn_wire c + 1)))
+    Some (run (Some (wire_col (inn_wire c + 1))) (Some (wire_col (light_net c left_light (inn_wire c + 1)))) (light_net c left_light (inn_wire c + 1)))
     else east_runs c (heavy_net c left_light) row
 
 -- the foot of a node's block
-abbrev pub node_foot : Counts → List (Rattle.star_normal.specs.declared.node.Node.Node) → ℕ → NodeKind → Wiring
+abbrev pub node_foot : Counts → List Node → ℕ → NodeKind → Wiring
 node_foot c nodes nets (Leaf s) = foot c nets ended no_runs
 node_foot c nodes nets (Seq left right) = foot c nets (pair_spans c (is_left_light nodes left right)) (pair_run c (is_left_light nodes left right))
 node_foot c nodes nets (Alt left right) = foot c nets (pair_spans c (is_left_light nodes left right)) (pair_run c (is_left_light nodes left right))

@@ -115,12 +115,18 @@ vertical_sides North i = Some i
 vertical_sides South i = Some i
 vertical_sides _ i = None
 
+abbrev pub corner_sides : Turn → SideNets
+corner_sides turn side i = if is_joined turn side then Some i else None
+
+abbrev pub no_sides : SideNets
+no_sides side i = None
+
 abbrev pub block_sides : TreeTable → Tables → BlockKind → SideNets
-block_sides tree tables Empty side i = None
+block_sides tree tables Empty = no_sides
 block_sides tree tables Horizontal = horizontal_sides
 block_sides tree tables Vertical = vertical_sides
 block_sides tree tables Cross = cross_sides (counts_of tree tables)
-block_sides tree tables (Corner turn) side i = if is_joined turn side then Some i else None
+block_sides tree tables (Corner turn) = corner_sides turn
 block_sides tree tables (NodeBlock v) = node_sides (counts_of tree tables) tree.nodes (node_at tree.nodes v).kind
 block_sides tree tables (FrameBlock v) = frame_sides
 

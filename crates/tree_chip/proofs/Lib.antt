@@ -1,0 +1,17 @@
+pub mod Members
+pub mod Ranks
+pub mod TreeEdges
+pub mod SideNets
+pub mod Places
+pub mod Seams
+pub mod EdgeJoins
+pub mod Numbers
+pub mod Covered
+pub mod Counted
+pub mod WholeDevices
+pub mod FirstLabels
+pub mod PadSpots
+pub mod CellsNetwork
+pub mod DrawnCells
+pub mod DrawnNetworks
+pub mod Recognised

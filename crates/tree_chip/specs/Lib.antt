@@ -1,2 +1,3 @@
 -- Definitions that public contracts cite:
 pub mod TreePlans
+pub mod TreeNetworks

@@ -1,5 +1,5 @@
 -- The plan of tiles of a tree's layout, its labels, and the network that they stand for.
-use Rattle.std.specs.Prelude.{◌≡◌, ℕ, ◌+◌, ◌*◌, ◌/◌, ◌%◌, ◌<◌, ◌==◌, List, ◌∷◌, ◌++◌, length, map, All, IsPermutation}
+use Rattle.std.specs.Prelude.{ℕ, ◌+◌, ◌*◌, ◌/◌, ◌%◌, ◌<◌, ◌==◌, List, ◌∷◌, ◌++◌, length, map, All, IsPermutation}
 use Rattle.rx_text.specs.declared.pad_name.Role.TheVariants.{Vdd, Gnd, Phi1, Phi2, Reset as ResetRole, Input, Output}
 use Rattle.geom.specs.declared.layer.Layer.TheVariants.{Poly}
 use Rattle.geom.specs.declared.chip.Label.{Label}
@@ -53,7 +53,8 @@ frame_pads c tables =
 abbrev pub pad_spot : Sheet → TreeTable → Tables → ℕ → Spot
 pad_spot sheet tree tables net =
     let side = block_side (counts_of tree tables) in
-    border_spot (tree_plan sheet tree tables) (side * row_of (place_in sheet (frame tree))) (side * col_of (place_in sheet (frame tree)) + wire_col net) South Poly
+    let place = place_in sheet (frame tree) in
+    border_spot (tree_plan sheet tree tables) (side * row_of place) (side * col_of place + wire_col net) South Poly
 
 -- the pad's name there
 abbrev pub pad_label : Sheet → TreeTable → Tables → Pad → Label
