@@ -1,6 +1,6 @@
 -- Which part stands above a node's: the one that has the node for a part, or the frame above the root.
 use Rattle.std.specs.Prelude.{slice_get, flat_map}
-use Rattle.std.proofs.Common.{◌≡◌, ◌⊎◌, inl, inr, ℕ, zero, suc, ◌+◌, ◌<◌, ◌≤◌, ◌==◌, ◌||◌, Bool, true, false, cond, List, [], ◌∷◌, ◌++◌, length, Some, count_by, refl, ap, sym, ◌∙◌, arith, eq-eqb, eqb-true}
+use Rattle.std.proofs.Common.{◌≡◌, ◌⊎◌, inl, inr, ℕ, suc, ◌+◌, ◌<◌, ◌==◌, ◌||◌, true, false, cond, List, [], ◌∷◌, length, Some, count_by, refl, ap, sym, ◌∙◌, arith, eqb-true}
 use Rattle.std.specs.List.{list_any}
 use Rattle.std.proofs.lemmas.Bool.{cases_Bool}
 use Rattle.std.proofs.lemmas.Option.{slice_get_within, slice_get-get_or, get_or_from_slice_get}
@@ -13,7 +13,7 @@ use Rattle.cell_network.specs.declared.numbering.Counts.{Counts}
 use Rattle.cell_network.specs.Parts.{node_at}
 use Rattle.cell_network.specs.Home.{start_net, begin_net, in_net}
 use Rattle.cell_network.specs.Assembled.{above_from, part_above}
-use Rattle.cell_network.proofs.Feeding.{hit, hits, uses_of, used, root_fed, left_fed, right_fed, left_before, right_before, parts_differ}
+use Rattle.cell_network.proofs.Feeding.{hit, uses_of, used, root_fed, left_fed, right_fed, left_before, right_before, parts_differ}
 
 -- a node of these that has v for a part
 pub record IsFound (k : ℕ) (xs : List Node) (v : ℕ) : Type 0 where

@@ -1,24 +1,22 @@
 -- The network of cells is the assembly of its parts.
-use Rattle.std.specs.Prelude.{flat_map}
-use Rattle.std.proofs.Common.{◌≡◌, ◌⊎◌, ◌↔◌, inl, inr, ℕ, zero, suc, ◌+◌, ◌*◌, ◌<◌, ◌≤◌, List, [], ◌∷◌, ◌++◌, map, length, slice_index_or, All, IsPermutation, refl, ap, sym, subst, ◌∙◌, arith, lt-ltb, le-ltb}
-use Rattle.std.specs.List.{AllByRecursion, range_with_len}
+use Rattle.std.proofs.Common.{◌≡◌, ◌↔◌, inl, inr, ℕ, zero, suc, ◌+◌, ◌*◌, ◌<◌, ◌≤◌, List, [], ◌∷◌, map, length, All, IsPermutation, refl, ap, sym, subst, ◌∙◌, arith, lt-ltb, le-ltb}
+use Rattle.std.specs.List.{range_with_len}
 use Rattle.std.proofs.lemmas.Bool.{cases_lt}
 use Rattle.std.proofs.lemmas.List.{map-append}
 use Rattle.std.proofs.lemmas.List.Elements.{All-from_recursion}
 use Rattle.std.proofs.lemmas.List.Sorted.{IsPermutation-map}
-use Rattle.rx_text.specs.declared.pad_name.Role.TheVariants.{Vdd, Gnd, Phi1, Phi2, Reset, Input, Output}
+use Rattle.rx_text.specs.declared.pad_name.Role.TheVariants.{Input, Output}
 use Rattle.rx_lang.specs.Tables.{Tables}
 use Rattle.star_normal.specs.Tables.{TreeTable, IsTree}
 use Rattle.switch_net.specs.Circuit.{ascending}
-use Rattle.switch_net.specs.declared.network.Pad.{Pad}
 use Rattle.nor_net.specs.SwitchForm.{switch_form}
-use Rattle.nor_net.specs.Assembly.{PartNet, part_net, IsPartNet, NetsMeet, PartsJoin, PartPad, pad_by, assembled_devices, IsAssembly}
+use Rattle.nor_net.specs.Assembly.{PartNet, part_net, IsPartNet, PartsJoin, PartPad, pad_by, assembled_devices, IsAssembly}
 use Rattle.nor_net.specs.Assembly.PartsJoin.{same, on, back}
 use Rattle.cell_network.specs.declared.numbering.Counts.{Counts}
 use Rattle.cell_network.specs.Parts.{counts_of, node_at, inn_wire, bundle, frame_numbers, part_of}
-use Rattle.cell_network.specs.Home.{line_net, output_net, whole_nets}
-use Rattle.cell_network.specs.Whole.{plain, pad_at, pads_from, pads_of, cells_of}
-use Rattle.cell_network.specs.Assembled.{ports_meet, part_home, driver_of, part_count, frame_pad, frame_pad_at, frame_pads, AreDriven}
+use Rattle.cell_network.specs.Home.{line_net, output_net}
+use Rattle.cell_network.specs.Whole.{pad_at, pads_from, pads_of, cells_of}
+use Rattle.cell_network.specs.Assembled.{ports_meet, part_home, driver_of, part_count, frame_pad_at, frame_pads, AreDriven}
 use Rattle.cell_network.proofs.Meetings.{wires_of}
 use Rattle.cell_network.proofs.Ranges.{each_append, each_range}
 use Rattle.cell_network.proofs.Drivers as drivers

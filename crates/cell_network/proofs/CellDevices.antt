@@ -1,13 +1,12 @@
 -- The devices of the network of cells are those of its parts.
 use Rattle.std.specs.Prelude.{flat_map}
-use Rattle.std.proofs.Common.{◌≡◌, ◌⊎◌, inl, inr, ℕ, zero, suc, ◌+◌, ◌*◌, ◌<◌, ◌≤◌, ◌==◌, Bool, true, false, cond, List, [], ◌∷◌, ◌++◌, map, length, filter, count_by, sum_by, slice_index_or, IsPermutation, refl, ap, sym, subst, ◌∙◌, arith, lt-ltb, le-ltb}
+use Rattle.std.proofs.Common.{◌≡◌, inl, inr, ℕ, zero, suc, ◌+◌, ◌<◌, ◌≤◌, false, cond, List, [], ◌∷◌, ◌++◌, map, length, filter, sum_by, IsPermutation, refl, ap, sym, subst, ◌∙◌, arith, lt-ltb, le-ltb}
 use Rattle.std.specs.List.{AllByRecursion, range_with_len}
 use Rattle.std.proofs.lemmas.Bool.{cases_Bool}
 use Rattle.std.proofs.lemmas.List.{map-append}
 use Rattle.std.proofs.lemmas.List.Concat.{flat_map-append}
 use Rattle.std.proofs.lemmas.List.Sums.{sum_by-append}
 use Rattle.std.proofs.lemmas.List.Sorted.{IsPermutation-map, sum_by-IsPermutation}
-use Rattle.rx_text.specs.declared.pad_name.Role.TheVariants.{Gnd}
 use Rattle.rx_lang.specs.Tables.{Tables, IsSpecification}
 use Rattle.star_normal.specs.declared.node.NodeKind.{NodeKind}
 use Rattle.star_normal.specs.declared.node.NodeKind.TheVariants.{Leaf, Seq, Alt}
@@ -17,9 +16,9 @@ use Rattle.switch_net.specs.declared.network.Device.{Device}
 use Rattle.switch_net.specs.declared.network.Device.TheVariants.{Load}
 use Rattle.nor_net.specs.Netlist.{NorGate}
 use Rattle.nor_net.specs.Evaluation.{is_output}
-use Rattle.nor_net.specs.SwitchForm.{at, load_at, pull_downs, transfer_device, devices_of, switch_form}
-use Rattle.nor_net.specs.Part.{PartTables, clocked_device, part_devices}
-use Rattle.nor_net.specs.Assembly.{part_net, devices_by, assembled_devices}
+use Rattle.nor_net.specs.SwitchForm.{at, load_at, pull_downs, transfer_device, switch_form}
+use Rattle.nor_net.specs.Part.{PartTables, clocked_device}
+use Rattle.nor_net.specs.Assembly.{devices_by, assembled_devices}
 use Rattle.nor_net.specs.declared.gate.Transfer.{Transfer}
 use Rattle.cell_network.specs.declared.numbering.Counts.{Counts}
 use Rattle.cell_network.specs.declared.numbering.Numbering.{Numbering}

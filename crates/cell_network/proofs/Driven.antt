@@ -1,24 +1,21 @@
 -- Each net of a part has a net that stands for it in the whole, to which meetings lead.
-use Rattle.std.proofs.Common.{◌≡◌, ◌⊎◌, inl, inr, ℕ, suc, ◌+◌, ◌-◌, ◌*◌, ◌<◌, ◌≤◌, List, [], ◌∷◌, ◌++◌, map, length, slice_index_or, All, refl, ap, sym, ◌∙◌, arith}
-use Rattle.std.specs.List.{AllByRecursion, range_with_len}
+use Rattle.std.proofs.Common.{◌≡◌, ◌⊎◌, inl, inr, ℕ, ◌+◌, ◌-◌, ◌*◌, ◌<◌, ◌≤◌, length, refl, ◌∙◌, arith}
 use Rattle.std.proofs.lemmas.Bool.{cases_lt}
-use Rattle.std.proofs.lemmas.List.Elements.{All-from_recursion}
 use Rattle.rx_lang.specs.Tables.{Tables}
 use Rattle.star_normal.specs.declared.node.NodeKind.{NodeKind}
 use Rattle.star_normal.specs.declared.node.NodeKind.TheVariants.{Leaf, Seq, Alt}
 use Rattle.star_normal.specs.Tables.{TreeTable, IsTree}
-use Rattle.switch_net.specs.declared.network.Pad.{Pad}
-use Rattle.nor_net.specs.Assembly.{PartNet, part_net, IsPartNet, PartsJoin, PartPad, pad_by}
+use Rattle.nor_net.specs.Assembly.{PartNet, part_net, IsPartNet, PartsJoin}
 use Rattle.nor_net.specs.Assembly.PartsJoin.{same, on, back}
 use Rattle.cell_network.specs.declared.numbering.Counts.{Counts}
 use Rattle.cell_network.specs.Parts.{counts_of, node_at, inn_wire, bundle, part_of}
-use Rattle.cell_network.specs.Home.{start_net, end_net, begin_net, shared_net, output_net, master_net, frame_home}
-use Rattle.cell_network.specs.Assembled.{ports_meet, frame_homes, part_home, driver_of, part_count, AreDriven}
+use Rattle.cell_network.specs.Home.{start_net, end_net, begin_net, shared_net, master_net, frame_home}
+use Rattle.cell_network.specs.Assembled.{ports_meet, frame_homes, part_home, driver_of, part_count}
 use Rattle.cell_network.proofs.HomeReads.{WireCase, wire_case, below_seven, read_fixed}
 use Rattle.cell_network.proofs.HomeReads.WireCase.{symbol_wire, shared_wire, fixed_wire}
 use Rattle.cell_network.proofs.PortNets.{child_inn, child_out}
 use Rattle.cell_network.proofs.Meetings.{wires_of}
-use Rattle.cell_network.proofs.Above.{HasAbove, above_of, left_in, right_in}
+use Rattle.cell_network.proofs.Above.{above_of, left_in, right_in}
 use Rattle.cell_network.proofs.Feeding.{root_fed}
 use Rattle.cell_network.proofs.Drivers as drivers
 use Rattle.cell_network.proofs.NodeDrivers as nodes

@@ -1,9 +1,8 @@
 -- The nets of parts that stand for nets of the whole: the number of each in the whole, from which it is known again.
-use Rattle.std.proofs.Common.{◌≡◌, ◌⊎◌, inl, inr, ℕ, zero, suc, ◌+◌, ◌-◌, ◌*◌, ◌<◌, ◌≤◌, ◌==◌, true, false, nat_lt, if◌then◌else◌, List, [], ◌∷◌, ◌++◌, length, slice_index_or, refl, ap, sym, ◌∙◌, arith, eq-eqb, lt-ltb, le-ltb}
+use Rattle.std.proofs.Common.{◌≡◌, ◌⊎◌, inl, inr, ℕ, ◌+◌, ◌-◌, ◌*◌, ◌<◌, ◌≤◌, nat_lt, if◌then◌else◌, List, [], ◌∷◌, ◌++◌, length, slice_index_or, refl, sym, ◌∙◌, arith, lt-ltb, le-ltb}
 use Rattle.std.specs.List.{range_with_len}
 use Rattle.std.proofs.lemmas.Bool.{ne_eqb}
 use Rattle.rx_lang.specs.Tables.{Tables}
-use Rattle.star_normal.specs.declared.node.Node.{Node}
 use Rattle.star_normal.specs.declared.node.NodeKind.{NodeKind}
 use Rattle.star_normal.specs.declared.node.NodeKind.TheVariants.{Leaf, Seq, Alt}
 use Rattle.star_normal.specs.Tables.{TreeTable}
@@ -11,9 +10,9 @@ use Rattle.nor_net.specs.Assembly.{PartNet, part_net, IsPartNet}
 use Rattle.cell_network.specs.declared.numbering.Counts.{Counts}
 use Rattle.cell_network.specs.declared.numbering.Numbering.{Numbering}
 use Rattle.cell_network.specs.Parts.{counts_of, node_at, inn_wire, bundle, part_of}
-use Rattle.cell_network.specs.Home.{start_net, end_net, begin_net, shared_net, output_net, master_net, whole_nets, in_net, home_numbers, home_of_kind, home, frame_home}
-use Rattle.cell_network.specs.Assembled.{with_wires, kind_homes, node_homes, frame_homes, part_home, node_driver, frame_driver, driver_of, part_count}
-use Rattle.cell_network.proofs.HomeReads.{in_range, behind_range, read_symbol, read_shared, read_fixed, read_inn, read_own, read_first}
+use Rattle.cell_network.specs.Home.{start_net, end_net, begin_net, shared_net, output_net, master_net, whole_nets, frame_home}
+use Rattle.cell_network.specs.Assembled.{with_wires, node_homes, frame_homes, part_home, node_driver, frame_driver, driver_of, part_count}
+use Rattle.cell_network.proofs.HomeReads.{in_range, behind_range, read_symbol, read_shared, read_fixed, read_inn, read_own}
 
 module _ (c : Counts) where
   -- ---- nodes

@@ -1,7 +1,6 @@
 -- The named nets of each part stand in the whole where the whole numbering says.
-use Rattle.std.specs.Prelude.{flat_map}
-use Rattle.std.proofs.Common.{◌≡◌, ◌⊎◌, inl, inr, ℕ, ◌+◌, ◌*◌, ◌<◌, ◌≤◌, Bool, true, false, List, [], ◌∷◌, ◌++◌, map, length, slice_index_or, All, refl, ap, sym, ◌∙◌, arith}
-use Rattle.std.specs.List.{AllByRecursion, range_with_len}
+use Rattle.std.proofs.Common.{◌≡◌, ◌⊎◌, inl, inr, ℕ, ◌+◌, ◌*◌, ◌<◌, Bool, true, false, List, [], ◌∷◌, length, slice_index_or, refl, ap, sym, ◌∙◌, arith}
+use Rattle.std.specs.List.{AllByRecursion}
 use Rattle.rx_lang.specs.Tables.{Tables, IsSpecification}
 use Rattle.star_normal.specs.declared.node.Node.{Node}
 use Rattle.star_normal.specs.declared.node.NodeKind.{NodeKind}
@@ -11,13 +10,13 @@ use Rattle.nor_net.specs.Assembly.{part_net}
 use Rattle.cell_network.specs.declared.numbering.Counts.{Counts}
 use Rattle.cell_network.specs.declared.numbering.Numbering.{Numbering}
 use Rattle.cell_network.specs.declared.part_net.PartNet.{PartNet}
-use Rattle.cell_network.specs.declared.part_net.PartNet.TheVariants.{Symbol, Shared, In, Out, Reset, Vdd, NotBegins, Begins, NotSymbol, Data, Master, Inverse, Stored, LeftOut, RightIn, RightOut, NotRight, NotOut, Line, Complement, Output}
+use Rattle.cell_network.specs.declared.part_net.PartNet.TheVariants.{Shared, In, Out, Reset, Vdd, NotBegins, Begins, Master, Inverse, Stored, LeftOut, RightOut, Line, Complement, Output}
 use Rattle.cell_network.specs.Cells.{eps_at}
-use Rattle.cell_network.specs.Shapes.{NamedGate, number, gate, complement_inputs, begin_inputs, leaf_gates, pair_gates, right_inputs, end_inputs, kind_gates, mark_of, mark_gate, mark_gates, mismatches, pattern_at, complement_gate, symbol_gate, output_gate, frame_gates}
-use Rattle.cell_network.specs.Parts.{NamesSymbol, counts_of, node_at, inn_wire, bundle, leaf_numbers, pair_numbers, kind_numbers, frame_numbers}
-use Rattle.cell_network.specs.Home.{in_net, home_of_kind, home, frame_home}
+use Rattle.cell_network.specs.Shapes.{gate, complement_inputs, begin_inputs, leaf_gates, pair_gates, right_inputs, end_inputs, kind_gates, mark_of, mark_gate, mark_gates, pattern_at, frame_gates}
+use Rattle.cell_network.specs.Parts.{counts_of, node_at, inn_wire, bundle, leaf_numbers, pair_numbers, frame_numbers}
+use Rattle.cell_network.specs.Home.{home, frame_home}
 use Rattle.cell_network.specs.Assembled.{part_home}
-use Rattle.cell_network.proofs.Ranges.{each_append, each_piece}
+use Rattle.cell_network.proofs.Ranges.{each_piece}
 use Rattle.cell_network.proofs.Mismatches.{mismatches_each}
 use Rattle.cell_network.proofs.FrameParts.{each_gate}
 use Rattle.cell_network.proofs.RenamedParts.{Agrees, GateAgrees}

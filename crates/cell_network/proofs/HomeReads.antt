@@ -1,15 +1,11 @@
 -- Which net of the whole a net of a part is: what stands at each place of the list.
-use Rattle.std.proofs.Common.{◌≡◌, ◌⊎◌, inl, inr, ℕ, zero, suc, ◌+◌, ◌-◌, ◌*◌, ◌<◌, ◌≤◌, true, false, List, [], ◌∷◌, ◌++◌, length, slice_index_or, refl, sym, ap, ◌∙◌, arith, lt-ltb, le-ltb}
+use Rattle.std.proofs.Common.{◌≡◌, inl, inr, ℕ, zero, suc, ◌+◌, ◌-◌, ◌<◌, List, ◌∷◌, ◌++◌, slice_index_or, refl, ◌∙◌, arith}
 use Rattle.std.specs.List.{range_with_len}
 use Rattle.std.proofs.lemmas.Bool.{cases_lt}
-use Rattle.rx_lang.specs.Tables.{Tables}
-use Rattle.star_normal.specs.Tables.{TreeTable}
-use Rattle.nor_net.specs.Assembly.{part_net}
 use Rattle.cell_network.specs.declared.numbering.Counts.{Counts}
 use Rattle.cell_network.specs.declared.numbering.Numbering.{Numbering}
-use Rattle.cell_network.specs.Parts.{counts_of, inn_wire, bundle}
-use Rattle.cell_network.specs.Home.{frame_home}
-use Rattle.cell_network.specs.Assembled.{with_wires, node_homes, frame_homes, homes_of, part_home}
+use Rattle.cell_network.specs.Parts.{inn_wire, bundle}
+use Rattle.cell_network.specs.Assembled.{with_wires}
 
 -- ---- ranges
 

@@ -1,12 +1,11 @@
 -- The loads of all parts: different nets of the whole, which are the outputs of its gates.
 use Rattle.std.specs.Prelude.{flat_map}
-use Rattle.std.proofs.Common.{◌≡◌, ◌≢◌, ◌⊎◌, inl, inr, ℕ, zero, suc, ◌+◌, ◌*◌, ◌<◌, ◌≤◌, ◌==◌, ◌||◌, Bool, true, false, List, [], ◌∷◌, ◌++◌, map, length, filter, IsPermutation, refl, ap, sym, ◌∙◌, arith, eq-eqb, eqb-true}
+use Rattle.std.proofs.Common.{◌≡◌, ◌≢◌, ◌⊎◌, inl, inr, ℕ, zero, suc, ◌+◌, ◌*◌, ◌<◌, ◌≤◌, ◌==◌, ◌||◌, Bool, true, false, List, [], ◌∷◌, ◌++◌, map, length, filter, IsPermutation, refl, ap, sym, ◌∙◌, arith, eq-eqb}
 use Rattle.std.specs.List.{AllByRecursion, list_any, range_with_len}
-use Rattle.std.proofs.lemmas.Bool.{ne_eqb, cases_Bool, cases_eq, or_left, or_right}
+use Rattle.std.proofs.lemmas.Bool.{ne_eqb, cases_eq, or_left, or_right}
 use Rattle.std.proofs.lemmas.List.{map-append}
 use Rattle.std.proofs.lemmas.List.Folds.{list_any-append}
 use Rattle.rx_lang.specs.Tables.{Tables, IsSpecification}
-use Rattle.star_normal.specs.declared.node.Node.{Node}
 use Rattle.star_normal.specs.declared.node.NodeKind.{NodeKind}
 use Rattle.star_normal.specs.declared.node.NodeKind.TheVariants.{Leaf, Seq, Alt}
 use Rattle.star_normal.specs.Tables.{TreeTable, IsTree, flags_of}
@@ -19,8 +18,8 @@ use Rattle.cell_network.specs.declared.part_net.PartNet.{PartNet}
 use Rattle.cell_network.specs.declared.part_net.PartNet.TheVariants.{Shared, Begins, LeftOut, RightOut}
 use Rattle.cell_network.specs.Cells.{eps_at}
 use Rattle.cell_network.specs.Shapes.{NamedGate, number, numbered, right_inputs, end_inputs, pair_gates, kind_gates, mark_of, mark_gate, mark_gates, frame_gates}
-use Rattle.cell_network.specs.Parts.{counts_of, node_at, inn_wire, bundle, frame_numbers}
-use Rattle.cell_network.specs.Home.{shared_net, output_net, whole_nets, in_net, home_of_kind, home, frame_home}
+use Rattle.cell_network.specs.Parts.{counts_of, node_at, bundle, frame_numbers}
+use Rattle.cell_network.specs.Home.{shared_net, whole_nets, in_net, home_of_kind, home, frame_home}
 use Rattle.cell_network.specs.Whole.{load_gate, cell_gates, whole_gates}
 use Rattle.cell_network.proofs.Ranges.{Pairs, each_append, each_map, each_range, each_piece, each_weaker, each_across, pairs_append, pairs_map, pairs_pieces}
 use Rattle.cell_network.proofs.FrameParts.{each_gate, loads_differ}

@@ -1,5 +1,5 @@
 -- The nets of nodes that stand for nets of the whole, and what drives the others.
-use Rattle.std.proofs.Common.{◌≡◌, ◌⊎◌, inl, inr, ℕ, suc, ◌+◌, ◌*◌, ◌<◌, ◌≤◌, ◌==◌, nat_lt, if◌then◌else◌, List, [], ◌∷◌, length, slice_index_or, refl, ap, sym, ◌∙◌, arith, eq-eqb, lt-ltb, le-ltb}
+use Rattle.std.proofs.Common.{◌≡◌, ◌⊎◌, inl, inr, ℕ, ◌+◌, ◌*◌, ◌<◌, List, ◌∷◌, length, slice_index_or, refl, ap, sym, ◌∙◌, arith, eq-eqb, lt-ltb, le-ltb}
 use Rattle.std.proofs.lemmas.Bool.{ne_eqb}
 use Rattle.rx_lang.specs.Tables.{Tables}
 use Rattle.star_normal.specs.declared.node.NodeKind.{NodeKind}
@@ -9,12 +9,12 @@ use Rattle.nor_net.specs.Assembly.{part_net}
 use Rattle.cell_network.specs.declared.numbering.Counts.{Counts}
 use Rattle.cell_network.specs.declared.numbering.Numbering.{Numbering}
 use Rattle.cell_network.specs.Parts.{counts_of, node_at, inn_wire, bundle}
-use Rattle.cell_network.specs.Home.{symbol_net, shared_net, start_net, end_net, begin_net, master_net, in_net, home_of_kind, home}
-use Rattle.cell_network.specs.Assembled.{with_wires, kind_homes, node_homes, part_home, part_above, feeding_net, feeder, own_driver, node_driver, frame_driver, driver_of}
+use Rattle.cell_network.specs.Home.{shared_net, end_net, begin_net, master_net, in_net, home_of_kind, home}
+use Rattle.cell_network.specs.Assembled.{kind_homes, part_home, feeding_net, feeder, own_driver, driver_of}
 use Rattle.cell_network.proofs.HomeReads.{read_symbol, read_shared, read_fixed, read_inn, read_own}
 use Rattle.cell_network.proofs.Meetings.{Wires, wires_of}
 use Rattle.cell_network.proofs.Above.{left_above, right_above, root_above, both_differ}
-use Rattle.cell_network.proofs.Drivers.{IsSlot, slots, Classified, IsDriver, node_nets, node_reads, node_drives, frame_drives}
+use Rattle.cell_network.proofs.Drivers.{IsSlot, slots, IsDriver, node_nets, node_reads, node_drives, frame_drives}
 use Rattle.cell_network.proofs.Drivers.Classified.{in_node}
 
 module _ (tree : TreeTable) (tables : Tables) where

@@ -1,12 +1,10 @@
 -- The devices of a part on nets of the whole, from where each named net stands in the whole.
 use Rattle.std.specs.Prelude.{flat_map}
-use Rattle.std.proofs.Common.{◌≡◌, ℕ, List, [], ◌∷◌, ◌++◌, map, refl, ap, ◌∙◌}
+use Rattle.std.proofs.Common.{◌≡◌, ℕ, List, [], ◌∷◌, map, refl, ◌∙◌}
 use Rattle.std.specs.List.{AllByRecursion}
 use Rattle.std.proofs.lemmas.List.{map-append}
 use Rattle.switch_net.specs.Circuit.{renamed_device}
-use Rattle.switch_net.specs.declared.network.Device.{Device}
 use Rattle.switch_net.specs.declared.network.Device.TheVariants.{Pass, Load}
-use Rattle.nor_net.specs.Netlist.{NorGate}
 use Rattle.nor_net.specs.SwitchForm.{at, pull_downs}
 use Rattle.cell_network.specs.declared.numbering.Numbering.{Numbering}
 use Rattle.cell_network.specs.declared.part_net.PartNet.{PartNet}

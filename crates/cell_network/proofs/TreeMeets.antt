@@ -1,12 +1,12 @@
 -- Where the parts of a tree meet, and that meetings lead from every net to the one that drives it.
-use Rattle.std.proofs.Common.{◌≡◌, ◌⊎◌, inl, inr, ℕ, zero, suc, ◌+◌, ◌*◌, ◌<◌, ◌≤◌, ◌==◌, ◌&&◌, ◌||◌, true, nat_lt, if◌then◌else◌, Option, Some, None, List, length, Contains, refl, ap, sym, subst, ◌∙◌, arith, lt-ltb, le-ltb, eq-eqb, eqb-true}
+use Rattle.std.proofs.Common.{◌≡◌, ◌⊎◌, inl, inr, ℕ, zero, suc, ◌+◌, ◌*◌, ◌<◌, ◌≤◌, ◌==◌, ◌&&◌, ◌||◌, true, Option, Some, None, length, Contains, refl, ap, sym, subst, ◌∙◌, arith, lt-ltb, le-ltb, eq-eqb, eqb-true}
 use Rattle.std.proofs.lemmas.Bool.{cases_lt, cases_eq, cases_Bool, and_parts, and_from, or_left, or_right, ltb-true}
 use Rattle.rx_lang.specs.Tables.{Tables}
 use Rattle.star_normal.specs.declared.node.NodeKind.{NodeKind}
 use Rattle.star_normal.specs.declared.node.NodeKind.TheVariants.{Leaf, Seq, Alt}
 use Rattle.star_normal.specs.Tables.{TreeTable, IsTree}
 use Rattle.nor_net.specs.Assembly.{PartNet, part_net, IsPartNet, HasPort, NetsMeet, PartsJoin}
-use Rattle.nor_net.specs.Assembly.PartsJoin.{same, on, back}
+use Rattle.nor_net.specs.Assembly.PartsJoin.{same, back}
 use Rattle.cell_network.specs.declared.numbering.Counts.{Counts}
 use Rattle.cell_network.specs.Parts.{counts_of, node_at, inn_wire, bundle, kind_ports, frame_ports, part_of}
 use Rattle.cell_network.specs.Assembled.{ports_meet, is_number, left_of, right_of, left_below, right_below, driver_of, part_count}

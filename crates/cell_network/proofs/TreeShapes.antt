@@ -1,5 +1,5 @@
 -- What stands in the parts of a tree's nodes and of its frame.
-use Rattle.std.proofs.Common.{◌≡◌, ◌⊎◌, inl, inr, ℕ, suc, ◌+◌, ◌*◌, ◌<◌, ◌≤◌, ◌==◌, Bool, true, false, List, [], ◌∷◌, ◌++◌, map, length, All, refl, ap, sym, ◌∙◌, arith, lt-ltb, le-ltb, length-append}
+use Rattle.std.proofs.Common.{◌≡◌, inl, inr, ℕ, ◌+◌, ◌<◌, ◌≤◌, ◌==◌, Bool, true, false, List, [], ◌∷◌, ◌++◌, map, length, refl, ap, arith, lt-ltb, le-ltb}
 use Rattle.std.specs.List.{AllByRecursion, list_any, range_with_len}
 use Rattle.std.proofs.lemmas.Bool.{ne_eqb, cases_lt}
 use Rattle.std.proofs.lemmas.List.{length-map, map-append}
@@ -9,16 +9,15 @@ use Rattle.rx_lang.specs.Tables.{Tables, IsSpecification}
 use Rattle.star_normal.specs.declared.node.Node.{Node}
 use Rattle.star_normal.specs.declared.node.NodeKind.{NodeKind}
 use Rattle.star_normal.specs.declared.node.NodeKind.TheVariants.{Leaf, Seq, Alt}
-use Rattle.star_normal.specs.Tables.{TreeTable, IsTree, plain_node, flags_of}
+use Rattle.star_normal.specs.Tables.{TreeTable, plain_node, flags_of}
 use Rattle.nor_net.specs.Netlist.{NorGate}
 use Rattle.nor_net.specs.Evaluation.{is_output}
-use Rattle.nor_net.specs.Part.{PartTables, IsPart}
 use Rattle.nor_net.specs.PartShapes.{HasShape}
 use Rattle.cell_network.specs.declared.numbering.Counts.{Counts}
 use Rattle.cell_network.specs.declared.numbering.Numbering.{Numbering}
 use Rattle.cell_network.specs.declared.part_net.PartNet.TheVariants.{Shared}
 use Rattle.cell_network.specs.Shapes.{NamedGate, number, numbered, kind_gates, mark_of, mark_gate, mark_gates, frame_gates}
-use Rattle.cell_network.specs.Parts.{NamesSymbol, counts_of, node_at, inn_wire, bundle, kind_numbers, frame_numbers, node_part_of, frame_part_of, part_of}
+use Rattle.cell_network.specs.Parts.{node_at, inn_wire, kind_numbers, frame_numbers, node_part_of, frame_part_of, part_of}
 use Rattle.cell_network.specs.Home.{AreFew}
 use Rattle.cell_network.specs.TreeParts.{IsWired, AreParts, HaveShapes}
 use Rattle.cell_network.proofs.Named.{NamesSymbols}

@@ -1,6 +1,6 @@
 -- The network of cells as an assembly of its parts: which net of the whole a net of a part is, and which ports meet. The parts
 -- of nodes have the numbers of the nodes, and the frame's follows them.
-use Rattle.std.specs.Prelude.{◌≡◌, ℕ, ◌+◌, ◌*◌, ◌<◌, ◌≤◌, ◌⊎◌, ◌==◌, ◌&&◌, ◌||◌, Bool, false, nat_lt, if◌then◌else◌, List, [], ◌∷◌, ◌++◌, map, length, slice_index_or, Option, Some, None, All, IsPermutation}
+use Rattle.std.specs.Prelude.{◌≡◌, ℕ, ◌+◌, ◌*◌, ◌<◌, ◌≤◌, ◌==◌, ◌&&◌, ◌||◌, Bool, false, nat_lt, if◌then◌else◌, List, [], ◌∷◌, ◌++◌, map, length, slice_index_or, Option, Some, None, All, IsPermutation}
 use Rattle.std.specs.List.{list_any, range_with_len}
 use Rattle.rx_text.specs.declared.pad_name.Role.{Role}
 use Rattle.rx_text.specs.declared.pad_name.Role.TheVariants.{Vdd, Gnd, Phi1, Phi2, Reset as ResetRole, Input as InputRole, Output as OutputRole}
@@ -16,7 +16,7 @@ use Rattle.nor_net.specs.Assembly.{PartNet, part_net, IsPartNet, NetsMeet, Parts
 use Rattle.cell_network.specs.declared.numbering.Numbering.{Numbering}
 use Rattle.cell_network.specs.declared.numbering.Counts.{Counts}
 use Rattle.cell_network.specs.Parts.{counts_of, node_at, inn_wire, bundle, pair_numbers, frame_numbers, part_of}
-use Rattle.cell_network.specs.Home.{line_net, output_net, whole_nets, home, frame_home}
+use Rattle.cell_network.specs.Home.{whole_nets, home, frame_home}
 use Rattle.cell_network.specs.Whole.{pads_of, cells_of}
 
 -- ---- nets of the whole

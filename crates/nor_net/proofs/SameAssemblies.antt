@@ -1,12 +1,11 @@
 -- Circuits that are put together from the same parts are the same network.
 use Rattle.std.specs.Prelude.{flat_map}
-use Rattle.std.proofs.Common.{◌≡◌, ◌⊎◌, inl, inr, ℕ, zero, suc, ◌+◌, ◌<◌, ◌≤◌, ◌==◌, ◌&&◌, nat_lt, nat_le, Bool, true, false, if◌then◌else◌, List, [], ◌∷◌, ◌++◌, map, length, All, Contains, IsPermutation, refl, ap, sym, subst, ◌∙◌, arith, eq-eqb, eqb-true, lt-ltb}
+use Rattle.std.proofs.Common.{◌≡◌, inl, inr, ℕ, zero, suc, ◌+◌, ◌<◌, ◌≤◌, ◌==◌, ◌&&◌, nat_lt, nat_le, Bool, true, false, if◌then◌else◌, List, [], ◌∷◌, ◌++◌, map, All, IsPermutation, refl, ap, sym, subst, ◌∙◌, arith, eq-eqb, eqb-true, lt-ltb}
 use Rattle.std.specs.List.{AllByRecursion, range_with_len}
 use Rattle.std.proofs.lemmas.Bool.{cases_eq, cases_Bool, and_parts, ltb-true, leb-true, leb-false}
 use Rattle.std.proofs.lemmas.List.{map-append}
 use Rattle.std.proofs.lemmas.List.Elements.{All-from_recursion, recursion_from_All, All-contains}
 use Rattle.std.proofs.lemmas.List.Sorted.{IsPermutation-map, IsPermutation-sym, IsPermutation-trans, All-permutation}
-use Rattle.rx_text.specs.declared.pad_name.Role.TheVariants.{Phi1, Phi2}
 use Rattle.switch_net.specs.Circuit.{Circuit, device_nets, touched, renamed_pad, renamed_device, ascending, IsSameNetwork}
 use Rattle.switch_net.specs.declared.network.Net.{Net}
 use Rattle.switch_net.specs.declared.network.Pad.{Pad}

@@ -7,7 +7,6 @@ use Rattle.switch_net.specs.declared.network.Pad.{Pad}
 use Rattle.switch_net.specs.declared.network.Device.{Device}
 use Rattle.nor_net.specs.SwitchForm.{at}
 use Rattle.nor_net.specs.Part.{PartTables, IsPart, part_devices}
-use Rattle.nor_net.specs.declared.part.PartPort.{PartPort}
 
 -- a net of one of the parts
 pub record PartNet : Type 0 where
