@@ -11,6 +11,7 @@ mod part_net;
 mod shapes;
 mod whole;
 
+pub use numbering::Counts;
 pub use part::node_part;
 pub use rx_text::NoMemory;
 pub use whole::cells;

@@ -2,3 +2,4 @@
 pub mod Blocks
 pub mod BlockTiles
 pub mod BlockModules
+pub mod Made
