@@ -1,11 +1,11 @@
 -- The first bytes of commands, and where their parts stand.
-use Rattle.std.proofs.Common.{◌≡◌, ◌≢◌, ◌⊎◌, inl, inr, ℕ, suc, ◌+◌, ◌-◌, ◌≤◌, ◌<◌, ◌==◌, Bool, true, false, cond, ◌&&◌, List, [], ◌∷◌, ◌++◌, length, take, drop, get_or, flat_map, codes, Option, Some, None, refl, sym, ◌∙◌, ap, subst, append_assoc, arith, length-append}
+use Rattle.std.proofs.Common.{◌≡◌, ℕ, suc, ◌+◌, ◌-◌, ◌≤◌, ◌<◌, ◌==◌, Bool, true, false, cond, ◌&&◌, List, [], ◌∷◌, ◌++◌, length, take, drop, get_or, flat_map, codes, Option, Some, None, refl, sym, ◌∙◌, ap, subst, append_assoc, arith, length-append}
 use Rattle.std.specs.List.{list_all}
 use Rattle.std.proofs.lemmas.Bool.Decides.{nat_tests}
 use Rattle.std.proofs.lemmas.List.{get_or-drop, get_or-take, get_or_at, length-drop, length-take-le, take-take, take_at}
 use Rattle.rx_text.specs.NumberInText.{is_digit}
 use Rattle.geom.specs.declared.point.Point.{Point}
-use Rattle.geom.specs.CifCommands.{CifScale, CifMove, Translates, MirrorsX, MirrorsY, Rotates, CifCommand, Empty, Comment, Opens, Closes, CallsSymbol, SetsLayer, DrawsBox, DrawsPolygon, DrawsWire, Extension, CifPart, Letters, Unsigned, Signed, SpellsParts, SpellsCommand, IsExtension, move_parts, point_parts, scale_parts, direction_parts, command_parts}
+use Rattle.geom.specs.CifCommands.{CifScale, CifMove, Translates, MirrorsX, MirrorsY, Rotates, CifCommand, Empty, Comment, Opens, Closes, CallsSymbol, SetsLayer, DrawsBox, DrawsPolygon, DrawsWire, Extension, CifPart, Letters, Unsigned, SpellsParts, SpellsCommand, IsExtension, move_parts, point_parts, scale_parts, direction_parts, command_parts}
 use Rattle.cif_syntax.specs.Ends.{between}
 use Rattle.cif_syntax.specs.Sentences.{IsCommandAt}
 use Rattle.cif_values.specs.Parts.{is_plain, PartsAt}

@@ -1,9 +1,8 @@
 -- The kind by the first byte.
-use Rattle.std.proofs.Common.{◌≡◌, ℕ, ◌+◌, ◌==◌, cond, get_or, sym, ◌∙◌, ap}
-use Rattle.cif_kinds.specs.declared.kinds.CommandKind.{CommandKind}
+use Rattle.std.proofs.Common.{ℕ, ◌==◌, cond, get_or, sym, ◌∙◌, ap}
 use Rattle.cif_kinds.specs.declared.kinds.CommandKind.TheVariants as kind
 use Rattle.cif_kinds.specs.Kinds.{kind_of}
-use Rattle.cif_kinds.proofs.Standing.{KindAt, kind_at, kind_known, kind_other}
+use Rattle.cif_kinds.proofs.Standing.{kind_at, kind_known, kind_other}
 use Rattle.cif_kinds.proofs.kinds.command_kind.Goals as goal
 
 pub returns-then-byte-eq59 : goal.returns-then-byte-eq59
