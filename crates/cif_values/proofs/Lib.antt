@@ -1,0 +1,6 @@
+pub mod Bytes
+pub mod Texts
+pub mod Counting
+pub mod Behind
+pub mod Standing
+pub mod NextParts
