@@ -1,6 +1,7 @@
 pub mod Lists
 pub mod Chosen
 pub mod Parted
+pub mod Numbers
 pub mod Runs
 pub mod Counts
 pub mod Pairs
@@ -9,6 +10,7 @@ pub mod Sweeps
 pub mod Queries
 pub mod Climbs
 pub mod Held
+pub mod Clips
 pub mod Skies
 pub mod Gapped
 pub mod Combined
