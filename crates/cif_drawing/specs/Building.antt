@@ -31,9 +31,9 @@ IsOpening symbols None = ⊤
 IsOpening symbols (Some s) = IsSymbol (closed_symbols symbols) s × IsIndexOf symbols s.number None
 
 -- what holds between commands
-pub record IsBuilding (symbols : List Symbol) (opening : Option Symbol) (strokes : List Stroke) : Type 0 where
+pub record IsBuilding (symbols : List Symbol) (unclosed : Option Symbol) (strokes : List Stroke) : Type 0 where
   pub drawing : IsDrawing symbols strokes
-  pub opening : IsOpening symbols opening
+  pub opening : IsOpening symbols unclosed
 
 -- The symbol with one thing more in it, of this measure, which makes so many calls one within another.
 pub record IsInked (old : Symbol) (ink : Ink) (measure : Option Measure) (chain : ℕ) (new : Symbol) : Type 0 where

@@ -70,9 +70,9 @@ IsInk closed (Several boxes) = boxes.items ≢ []
 IsInk closed (Called call) = IsCall closed call
 
 -- It makes no longer chain of calls.
-pub record IsInkOf (closed : List CifSymbol) (chain : ℕ) (ink : Ink) : Type 0 where
-  pub ink : IsInk closed ink
-  pub short : ink_chain closed ink ≤ chain
+pub record IsInkOf (closed : List CifSymbol) (chain : ℕ) (it : Ink) : Type 0 where
+  pub ink : IsInk closed it
+  pub short : ink_chain closed it ≤ chain
 
 -- What stands in the symbol draws boxes by symbols before it, in short chains; and this is its measure.
 pub record IsSymbol (closed : List CifSymbol) (s : Symbol) : Type 0 where
@@ -90,6 +90,6 @@ abbrev pub AreStrokes : List CifSymbol → List Stroke → Type 0
 AreStrokes closed strokes = (stroke : Stroke) → Among strokes stroke → IsInkOf closed 64 stroke.ink
 
 -- Symbols and strokes of a drawing.
-pub record IsDrawing (symbols : List Symbol) (strokes : List Stroke) : Type 0 where
-  pub symbols : AreSymbols [] symbols
-  pub strokes : AreStrokes (closed_symbols symbols) strokes
+pub record IsDrawing (ss : List Symbol) (drawn : List Stroke) : Type 0 where
+  pub symbols : AreSymbols [] ss
+  pub strokes : AreStrokes (closed_symbols ss) drawn

@@ -1,6 +1,7 @@
 -- How many boxes there are, and how far they reach.
 use Rattle.std.specs.Prelude.{◌≡◌, ◌≢◌, ℕ, ◌+◌, ◌*◌, ◌^◌, min, Bool, ◌&&◌, ℤ, pos, neg_ℤ, int_lt, int_le, List, [], length, map, Option, Some, None}
 use Rattle.std.specs.List.{list_all}
+use Rattle.std.specs.Int.{int_min, int_max}
 use Rattle.geom.specs.declared.layer.Layer.TheVariants.{Metal}
 use Rattle.geom.specs.Squares.{BoxShape}
 use Rattle.geom.specs.Rows.{Among}
@@ -19,6 +20,13 @@ is_box b = is_side b.x1 b.x2 && is_side b.y1 b.y2
 -- the rectangle, in any layer
 abbrev pub extent_box : Extent → BoxShape
 extent_box e = record { layer = Metal; x1 = e.low.x; y1 = e.low.y; x2 = e.high.x; y2 = e.high.y }
+
+-- The least rectangle round two.
+pub record RoundBoth (e f r : Extent) : Type 0 where
+  pub left : r.low.x ≡ int_min e.low.x f.low.x
+  pub bottom : r.low.y ≡ int_min e.low.y f.low.y
+  pub right : r.high.x ≡ int_max e.high.x f.high.x
+  pub top : r.high.y ≡ int_max e.high.y f.high.y
 
 -- The number of the boxes, or one more than the most that may be drawn; and a rectangle that stays within reach exactly where
 -- all of them do, wherever they are placed.

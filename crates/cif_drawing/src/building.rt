@@ -132,12 +132,12 @@ impl DrawingBuilder {
     pub fn add_boxes(&mut self, place: Place, boxes: Vec<Box2>) -> Result<(), NoMemory>
         ensures { OnOk result (self.new ≡ drawn_parts self.old place boxes.items 0 self.old.opening) }
     {
-        if boxes.is_empty() {
+        let Some(measure) = measure_boxes(&boxes) else {
             return Ok(());
-        }
+        };
         let opening = self.opening.take();
-        let measure = measure_boxes(&boxes);
-        self.opening = added(opening, &mut self.strokes, place, Ink::Several(boxes), measure, 0)?;
+        let ink = Ink::Several(boxes);
+        self.opening = added(opening, &mut self.strokes, place, ink, Some(measure), 0)?;
         Ok(())
     }
 
@@ -167,16 +167,16 @@ impl DrawingBuilder {
         ensures { OnOk result (self.new ≡ drawn_parts self.old place (stepped_boxes steps.now (part_boxes (part_of self.old number)))
             (chain_or_none (part_of self.old number)) self.old.opening) }
     {
-        let Some(symbol) = self.symbols.index_of(number) else {
+        let Some(index) = self.symbols.index_of(number) else {
             return Ok(());
         };
         let symbols = self.symbols.list();
-        if symbols[symbol].inks.is_empty() {
+        let chain = chain_of_call(&symbols[index]);
+        if chain == 0 {
             return Ok(());
         }
-        let chain = symbols[symbol].chain + 1;
         let ink = Ink::Called(Call {
-            symbol,
+            symbol: index,
             placement: Placement::of(steps),
         });
         let measure = measure_ink(symbols, &ink);

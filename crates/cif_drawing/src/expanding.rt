@@ -1,13 +1,13 @@
 // The boxes of what stands in a drawing.
 
-ghost use Rattle.std.specs.Prelude.{◌≡◌, true, ◌≤◌, ◌-◌, ◌*◌, ◌^◌, ◌++◌, ◌∷◌, [], map, OnOk};
+ghost use Rattle.std.specs.Prelude.{◌≡◌, true, ◌<◌, ◌≤◌, length, slice_index_or, ◌-◌, ◌*◌, ◌^◌, ◌++◌, ◌∷◌, [], map, OnOk};
 ghost use Rattle.std.specs.List.{list_all};
 ghost use Rattle.cif_drawing.specs.Placements.{placed, IsNear};
 ghost use Rattle.cif_drawing.specs.Measures.{is_box, IsMeasure};
 ghost use Rattle.cif_drawing.specs.Inks.{closed_symbols, ink_boxes, ink_chain, IsInk, AreSymbols};
 
-use crate::ink::{Ink, Symbol};
-use crate::measure::Measure;
+use crate::ink::{Call, Ink, Symbol};
+use crate::measure::{Extent, Measure};
 use crate::measuring::{called, measure_boxes};
 use crate::placement::Placement;
 use geom::Box2;
@@ -22,7 +22,7 @@ pub fn measure_ink(symbols: &[Symbol], ink: &Ink) -> Option<Measure>
     match ink {
         Ink::Single(b) => Some(Measure::of(*b)),
         Ink::Several(boxes) => measure_boxes(boxes),
-        Ink::Called(call) => called(symbols[call.symbol].measure, call.placement),
+        Ink::Called(call) => called(symbol_of(symbols, call).measure, call.placement),
     }
 }
 
@@ -37,11 +37,11 @@ pub fn expand(symbols: &[Symbol], ink: &Ink, placement: Placement, boxes: &mut V
         (boxes.new.items ≡ boxes.old.items ++ map (placed placement) (ink_boxes (closed_symbols symbols.now) ink.now)) }
 {
     match ink {
-        Ink::Single(b) => add_placed(*b, placement, boxes)?,
-        Ink::Several(several) => add_all_placed(several, placement, boxes)?,
+        Ink::Single(b) => boxes.push(place(*b, placement))?,
+        Ink::Several(several) => add_placed(several, placement, boxes)?,
         Ink::Called(call) => {
             let inner = call.placement.then(placement);
-            for ink in &symbols[call.symbol].inks {
+            for ink in &symbol_of(symbols, call).inks {
                 expand(symbols, ink, inner, boxes)?;
             }
         }
@@ -49,24 +49,31 @@ pub fn expand(symbols: &[Symbol], ink: &Ink, placement: Placement, boxes: &mut V
     Ok(())
 }
 
-/// Adds the box, placed.
-fn add_placed(b: Box2, placement: Placement, boxes: &mut Vec<Box2>) -> Result<(), NoMemory>
-    requires { is_box (placed placement b) ≡ true }
-    ensures { OnOk result (boxes.new.items ≡ boxes.old.items ++ placed placement b ∷ []) }
+/// The symbol that is called.
+fn symbol_of<'a>(symbols: &'a [Symbol], call: &Call) -> &'a Symbol
+    requires { call.now.symbol < length symbols.now }
+    ensures { result.now ≡ slice_index_or symbols.now call.now.symbol result.now }
 {
-    if let Some(b) = placement.place(b) {
-        boxes.push(b)?;
-    }
-    Ok(())
+    &symbols[call.symbol]
+}
+
+/// The box, placed.
+fn place(b: Box2, placement: Placement) -> Box2
+    requires near { IsNear (2 ^ 120) placement.by }
+    requires within { is_box (placed placement b) ≡ true }
+    ensures { result ≡ placed placement b }
+{
+    Extent::of(b).placed(placement).boxed(b.layer)
 }
 
 /// Adds the boxes, placed.
-fn add_all_placed(several: &[Box2], placement: Placement, boxes: &mut Vec<Box2>) -> Result<(), NoMemory>
-    requires { list_all is_box (map (placed placement) several.now) ≡ true }
+fn add_placed(several: &[Box2], placement: Placement, boxes: &mut Vec<Box2>) -> Result<(), NoMemory>
+    requires near { IsNear (2 ^ 120) placement.by }
+    requires within { list_all is_box (map (placed placement) several.now) ≡ true }
     ensures { OnOk result (boxes.new.items ≡ boxes.old.items ++ map (placed placement) several.now) }
 {
     for b in several {
-        add_placed(*b, placement, boxes)?;
+        boxes.push(place(*b, placement))?;
     }
     Ok(())
 }

@@ -39,12 +39,20 @@ pub enum FlattenFault {
 }
 
 impl From<NoMemory> for FlattenFault {
+    ghost use Rattle.cif_drawing.specs.declared.flattening.FlattenFault.TheVariants as fault;
+
+    ghost from_gives = { λ _ e. e ≡ fault.NoMemory };
+
     fn from(_refused: NoMemory) -> FlattenFault {
         FlattenFault::NoMemory
     }
 }
 
 impl From<AllocError> for FlattenFault {
+    ghost use Rattle.cif_drawing.specs.declared.flattening.FlattenFault.TheVariants as fault;
+
+    ghost from_gives = { λ _ e. e ≡ fault.NoMemory };
+
     fn from(_refused: AllocError) -> FlattenFault {
         FlattenFault::NoMemory
     }
@@ -91,7 +99,8 @@ fn list_boxes(alloc: Global, symbols: &[Symbol], strokes: &[Stroke], count: usiz
     requires symbols { AreSymbols [] symbols.now }
     requires strokes { AreStrokes (closed_symbols symbols.now) strokes.now }
     requires within { list_all is_box (stroke_boxes (strokes_of symbols.now strokes.now)) ≡ true }
-    ensures { IfOk result (λ boxes. boxes.items ≡ stroke_boxes (strokes_of symbols.now strokes.now)) }
+    ensures listed { IfOk result (λ boxes. boxes.items ≡ stroke_boxes (strokes_of symbols.now strokes.now)) }
+    ensures within { IfOk result (λ boxes. (b : BoxShape) → Among boxes.items b → IsBox b) }
 {
     let mut boxes = Vec::with_capacity(alloc, count)?;
     for stroke in strokes {
@@ -114,7 +123,7 @@ fn count_stroke(symbols: &[Symbol], stroke: &Stroke, before: usize) -> Result<us
     if !measure.extent.is_box() {
         return Err(fault(CifCode::C8, stroke.place));
     }
-    if MOST_BOXES - before as u64 < measure.count {
+    if MOST_BOXES - (before as u64) < measure.count {
         return Err(fault(CifCode::C13, stroke.place));
     }
     Ok(measure.count as usize)

@@ -1,14 +1,13 @@
 // How many boxes there are, and how far they reach.
 
-ghost use Rattle.std.specs.Prelude.{◌≡◌, ◌≢◌, ℕ, ◌+◌, ◌*◌, ◌^◌, ◌≤◌, []};
-ghost use Rattle.std.specs.Int.{int_min, int_max};
+ghost use Rattle.std.specs.Prelude.{◌≡◌, true, ℕ, ◌+◌, ◌^◌};
 ghost use Rattle.geom.specs.Squares.{IsBox};
-ghost use Rattle.cif_drawing.specs.Placements.{IsOrdered, placed, IsNear};
-ghost use Rattle.cif_drawing.specs.Measures.{is_box, extent_box};
+ghost use Rattle.cif_drawing.specs.Placements.{placed, IsNear};
+ghost use Rattle.cif_drawing.specs.Measures.{is_side, is_box, extent_box, RoundBoth};
 
 use crate::placement::Placement;
 use crate::wide_point::WidePoint;
-use geom::Box2;
+use geom::{Box2, Layer};
 
 /// The most boxes that a drawing may draw.
 pub const MOST_BOXES: u64 = 8_000_000;
@@ -33,7 +32,7 @@ pub struct Measure {
 impl Extent {
     /// That of a box.
     pub fn of(b: Box2) -> Extent
-        ensures box { IsBox b }
+        ensures reach { IsBox b }
         ensures low { result.low ≡ record { x = b.x1; y = b.y1 } }
         ensures high { result.high ≡ record { x = b.x2; y = b.y2 } }
     {
@@ -51,18 +50,11 @@ impl Extent {
 
     /// The least rectangle round both.
     pub fn with(self, other: Extent) -> Extent
-        ensures low { result.low ≡ record { x = int_min self.low.x other.low.x; y = int_min self.low.y other.low.y } }
-        ensures high { result.high ≡ record { x = int_max self.high.x other.high.x; y = int_max self.high.y other.high.y } }
+        ensures { RoundBoth self other result }
     {
         Extent {
-            low: WidePoint {
-                x: self.low.x.min(other.low.x),
-                y: self.low.y.min(other.low.y),
-            },
-            high: WidePoint {
-                x: self.high.x.max(other.high.x),
-                y: self.high.y.max(other.high.y),
-            },
+            low: self.low.least(other.low),
+            high: self.high.greatest(other.high),
         }
     }
 
@@ -70,12 +62,21 @@ impl Extent {
     pub fn is_box(self) -> bool
         ensures { result ≡ is_box (extent_box self) }
     {
-        -FARTHEST_EDGE <= self.low.x
-            && self.low.x < self.high.x
-            && self.high.x <= FARTHEST_EDGE
-            && -FARTHEST_EDGE <= self.low.y
-            && self.low.y < self.high.y
-            && self.high.y <= FARTHEST_EDGE
+        is_side(self.low.x, self.high.x) && is_side(self.low.y, self.high.y)
+    }
+
+    /// The box of this layer.
+    pub fn boxed(self, layer: Layer) -> Box2
+        requires { is_box (extent_box self) ≡ true }
+        ensures { result ≡ record { layer = layer; x1 = self.low.x; y1 = self.low.y; x2 = self.high.x; y2 = self.high.y } }
+    {
+        Box2 {
+            layer,
+            x1: self.low.x as i64,
+            y1: self.low.y as i64,
+            x2: self.high.x as i64,
+            y2: self.high.y as i64,
+        }
     }
 
     /// The rectangle, placed.
@@ -89,17 +90,16 @@ impl Extent {
     {
         let first = self.low.turned(placement.turn);
         let last = self.high.turned(placement.turn);
-        let low = WidePoint {
-            x: first.x.min(last.x),
-            y: first.y.min(last.y),
-        };
-        let high = WidePoint {
-            x: first.x.max(last.x),
-            y: first.y.max(last.y),
-        };
         Extent {
-            low: low.plus(placement.by),
-            high: high.plus(placement.by),
+            low: first.least(last).plus(placement.by),
+            high: first.greatest(last).plus(placement.by),
         }
     }
+}
+
+/// The two edges are in order and no farther from the origin than those of boxes may be.
+fn is_side(from: i128, to: i128) -> bool
+    ensures { result ≡ is_side from to }
+{
+    -FARTHEST_EDGE <= from && from < to && to <= FARTHEST_EDGE
 }

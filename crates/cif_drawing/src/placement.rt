@@ -1,12 +1,12 @@
 // Where calls put their symbols.
 
-ghost use Rattle.std.specs.Prelude.{◌≡◌, ◌↔◌, ℕ, ◌+◌, ◌^◌, fold, IsSome, IfSome, IsTrue};
-ghost use Rattle.geom.specs.Squares.{BoxShape, IsBox};
+ghost use Rattle.std.specs.Prelude.{◌≡◌, ℕ, ◌+◌, ◌^◌, fold};
+ghost use Rattle.geom.specs.Squares.{BoxShape};
 ghost use Rattle.geom.specs.Rows.{Among};
 ghost use Rattle.cif_drawing.specs.Placements.{step_box, IsStep, IsOrdered, placed, IsNear};
 
 use crate::wide_point::WidePoint;
-use geom::{Box2, Orient, place};
+use geom::Orient;
 
 /// A transformation of a call: a turn, and then a move in lambda, within 2^40 each way. `T x y` moves, `M X`, `M Y` and
 /// `R a b` turn alone.
@@ -30,9 +30,6 @@ const STRAIGHT: Orient = Orient {
     neg_x: false,
     neg_y: false,
 };
-
-/// The greatest move of a box that stays within reach.
-const FARTHEST_MOVE: i128 = 0x200_0000_0000;
 
 impl Placement {
     /// Nothing turned, nothing moved.
@@ -85,27 +82,5 @@ impl Placement {
             turn: self.turn.then(next.turn),
             by: self.by.turned(next.turn).plus(next.by),
         }
-    }
-
-    /// The box, placed; `None` where one of its edges is then farther than 2^40 from the origin.
-    pub fn place(self, b: Box2) -> Option<Box2>
-        ensures within { IsSome result ↔ IsBox (placed self b) }
-        ensures placed { IfSome result (λ made. made ≡ placed self b) }
-    {
-        if self.is_far() {
-            None
-        } else {
-            place(b, self.turn, self.by.x as i64, self.by.y as i64)
-        }
-    }
-
-    /// It moves farther than a box may be moved that stays within reach.
-    fn is_far(self) -> bool
-        ensures { IsTrue result ↔ (IsNear (2 ^ 41) self.by → ⊥) }
-    {
-        self.by.x < -FARTHEST_MOVE
-            || FARTHEST_MOVE < self.by.x
-            || self.by.y < -FARTHEST_MOVE
-            || FARTHEST_MOVE < self.by.y
     }
 }
