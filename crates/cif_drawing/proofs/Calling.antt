@@ -97,7 +97,7 @@ drawn_nothing parts place boxes chain o e f g =
   where
     same : (symbols : List CifSymbol) (opening : Option CifSymbol) (strokes : List CifStroke) (labels : List Label)
         → (let p : DrawingParts = record { symbols = symbols; opening = opening; drawing = record { strokes = strokes; labels = labels } } in p)
-          ≡ drawn_parts (record { symbols = symbols; opening = opening; drawing = record { strokes = strokes; labels = labels } }) place [] 0 opening
+        ≡ drawn_parts (record { symbols = symbols; opening = opening; drawing = record { strokes = strokes; labels = labels } }) place [] 0 opening
     same symbols None strokes labels =
         ap (λ (l : List CifStroke). record { symbols = symbols; opening = None; drawing = record { strokes = l; labels = labels } }) (sym (append_nil strokes))
     same symbols (Some s) strokes labels =
@@ -176,7 +176,7 @@ nothing_of (b ∷ bs) n e = absurd (omega arith)
 
 pub called_nothing : (parts : DrawingParts) (place : Place) (steps : List Step) (symbols : List Symbol) (number k : ℕ) (s : Symbol) (chain : ℕ) → IsFound symbols number k s chain
     → chain ≡ 0 → parts ≡ drawn_parts parts place (stepped_boxes steps (part_boxes (found (reverse (closed_symbols symbols)) number)))
-        (chain_or_none (found (reverse (closed_symbols symbols)) number)) parts.opening
+    (chain_or_none (found (reverse (closed_symbols symbols)) number)) parts.opening
 called_nothing parts place steps symbols number k s chain h none =
     let x : CifSymbol = symbol_at (closed_symbols symbols) k in
     let P : Option CifSymbol → Type 0 = λ o. parts ≡ drawn_parts parts place (stepped_boxes steps (part_boxes o)) (chain_or_none o) parts.opening in
@@ -188,10 +188,10 @@ pub called_draws : (symbols : List Symbol) (opening opening' : Option Symbol) (s
     (p : Placement) (steps : List Step) (measure : Option Measure) (chain : ℕ) → IsBuilding symbols opening strokes → IsFound symbols number k s chain → chain ≢ 0
     → chain_or_none (found (reverse (closed_symbols symbols)) number) ≤ 64 → IsNear (2 ^ 103) p.by → ((b : BoxShape) → IsOrdered b → placed p b ≡ fold step_box b steps)
     → IsMeasure (ink_chain (closed_symbols symbols) (Called (record { symbol = k; placement = p }))) measure
-        (ink_boxes (closed_symbols symbols) (Called (record { symbol = k; placement = p })))
+    (ink_boxes (closed_symbols symbols) (Called (record { symbol = k; placement = p })))
     → IsAdded opening strokes place (Called (record { symbol = k; placement = p })) measure chain opening' strokes'
     → Draws symbols opening strokes labels place (stepped_boxes steps (part_boxes (found (reverse (closed_symbols symbols)) number)))
-        (chain_or_none (found (reverse (closed_symbols symbols)) number)) opening' strokes'
+    (chain_or_none (found (reverse (closed_symbols symbols)) number)) opening' strokes'
 called_draws symbols opening opening' strokes strokes' labels place number k s p steps measure chain b h some short near still m a =
     let closed : List CifSymbol = closed_symbols symbols in
     let x : CifSymbol = symbol_at closed k in
@@ -205,3 +205,28 @@ called_draws symbols opening opening' strokes strokes' labels place number k s p
     let Q : List BoxShape → Type 0 = λ l. Draws symbols opening strokes labels place l (chain_if_drawn x.boxes x.chain) opening' strokes' in
     let R : ℕ → Type 0 = λ n. Draws symbols opening strokes labels place (map (placed p) x.boxes) n opening' strokes' in
     subst P (sym f) (subst Q (stepped_same closed k s p steps (found_stands symbols number k s chain h) still) (subst R e d))
+
+pub closed_draws : (symbols symbols' : List Symbol) (opening opening' : Option Symbol) (s : Symbol) (strokes : List Stroke) (labels : List Label) → opening ≡ Some s
+    → opening' ≡ None → symbols' ≡ symbols ++ s ∷ [] → IsBuilding symbols opening strokes
+    → parts_of symbols' opening' strokes labels ≡ closed_parts (parts_of symbols opening strokes labels) (open_symbol (closed_symbols symbols) opening)
+closed_draws symbols symbols' opening opening' s strokes labels e f g h =
+    let P : Option Symbol → Type 0 = λ o. IsBuilding symbols o strokes in
+    let Q : Option Symbol → Type 0 =
+    λ o. parts_of (symbols ++ s ∷ []) None strokes labels ≡ closed_parts (parts_of symbols o strokes labels) (open_symbol (closed_symbols symbols) o) in
+    ap (λ (l : List Symbol). parts_of l opening' strokes labels) g
+    ∙ (ap (λ (o : Option Symbol). parts_of (symbols ++ s ∷ []) o strokes labels) f ∙ subst Q (sym e) (closed_same symbols s strokes labels (subst P e h)))
+
+pub closed_keeps : (symbols symbols' : List Symbol) (opening opening' : Option Symbol) (s : Symbol) (strokes : List Stroke) → opening ≡ Some s → opening' ≡ None
+    → symbols' ≡ symbols ++ s ∷ [] → IsBuilding symbols opening strokes → IsBuilding symbols' opening' strokes
+closed_keeps symbols symbols' opening opening' s strokes e f g h =
+    let P : Option Symbol → Type 0 = λ o. IsBuilding symbols o strokes in
+    let Q : Option Symbol → Type 0 = λ o. IsBuilding symbols' o strokes in
+    let R : List Symbol → Type 0 = λ l. IsBuilding l None strokes in
+    subst Q (sym f) (subst R (sym g) (closed_holds symbols s strokes (subst P e h)))
+
+pub dropped_keeps : (symbols symbols' : List Symbol) (opening opening' : Option Symbol) (strokes : List Stroke) → opening' ≡ None → symbols' ≡ symbols
+    → IsBuilding symbols opening strokes → IsBuilding symbols' opening' strokes
+dropped_keeps symbols symbols' opening opening' strokes f g h =
+    let Q : Option Symbol → Type 0 = λ o. IsBuilding symbols' o strokes in
+    let R : List Symbol → Type 0 = λ l. IsBuilding l None strokes in
+    subst Q (sym f) (subst R (sym g) (record { drawing = h.drawing; opening = tt }))

@@ -56,6 +56,7 @@ index_by : (symbols : List Symbol) (s : Symbol) (n : ℕ) (old : Option ℕ) (t 
 index_by symbols s n old true e new h = last_index symbols s n new (eqb-true s.number n e)
 index_by symbols s n None false e new h = none_stays symbols s n h (eqb-false s.number n e)
 index_by symbols s n (Some k) false e new h = index_stays symbols s n k h (eqb-false s.number n e)
+
 pub pushed_index : (symbols : List Symbol) (s : Symbol) (n : ℕ) (old new : Option ℕ) → IsIndexOf symbols s.number None → IsIndexOf symbols n old
     → new ≡ cond (s.number == n) (Some (length symbols)) old → IsIndexOf (symbols ++ s ∷ []) n new
 pushed_index symbols s n old new fresh h e =

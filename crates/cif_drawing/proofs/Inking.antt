@@ -62,18 +62,18 @@ inked_is closed old new ink measure chain h k s = record {
   inks = λ i a. of i (let P : List Ink → Type 0 = λ l. Among l i in subst P h.inks a);
   short = omega (arith, h.chain_is, s.short, k.short);
   measure = (let P : List BoxShape → Type 0 = λ l. IsMeasure new.chain new.measure l in
-  subst P (sym (inked_boxes closed old new ink measure chain h)) (h.joined new.chain (inks_boxes closed old.inks.items) (ink_boxes closed ink)
-  (measure_more old.chain new.chain old.measure (inks_boxes closed old.inks.items) (omega (arith, h.chain_is)) s.measure)
-  (measure_more chain new.chain measure (ink_boxes closed ink) (omega (arith, h.chain_is)) k.measured)));
+      subst P (sym (inked_boxes closed old new ink measure chain h)) (h.joined new.chain (inks_boxes closed old.inks.items) (ink_boxes closed ink)
+      (measure_more old.chain new.chain old.measure (inks_boxes closed old.inks.items) (omega (arith, h.chain_is)) s.measure)
+      (measure_more chain new.chain measure (ink_boxes closed ink) (omega (arith, h.chain_is)) k.measured)));
 }
   where
     of : (i : Ink) → Among (old.inks.items ++ ink ∷ []) i → IsInkOf closed new.chain i
     of i a = elim (among_cases old.inks.items (ink ∷ []) i a) [
       | inl j ↦ ink_of_more closed old.chain new.chain i (omega (arith, h.chain_is)) (s.inks i j)
       | inr j ↦ elim j [
-          | inl e ↦ (let P : Ink → Type 0 = λ v. IsInkOf closed new.chain v in subst P e (ink_of_more closed chain new.chain ink (omega (arith, h.chain_is)) k.is))
-          | inr n ↦ absurd n
-        ]
+        | inl e ↦ (let P : Ink → Type 0 = λ v. IsInkOf closed new.chain v in subst P e (ink_of_more closed chain new.chain ink (omega (arith, h.chain_is)) k.is))
+        | inr n ↦ absurd n
+      ]
     ]
 
 strokes_one : (symbols : List Symbol) (strokes : List Stroke) (s : Stroke) → strokes_of symbols (strokes ++ s ∷ []) ≡ strokes_of symbols strokes ++ cif_stroke (closed_symbols symbols) s ∷ []
@@ -111,9 +111,9 @@ added_draws symbols None None strokes strokes' labels place ink measure chain h 
     of s i = elim (among_cases strokes (record { place = place; ink = ink } ∷ []) s i) [
       | inl j ↦ h.drawing.strokes s j
       | inr j ↦ elim j [
-          | inl e ↦ (let P : Stroke → Type 0 = λ v. IsInkOf (closed_symbols symbols) 64 v.ink in subst P e (ink_of_more (closed_symbols symbols) chain 64 ink k.short k.is))
-          | inr n ↦ absurd n
-        ]
+        | inl e ↦ (let P : Stroke → Type 0 = λ v. IsInkOf (closed_symbols symbols) 64 v.ink in subst P e (ink_of_more (closed_symbols symbols) chain 64 ink k.short k.is))
+        | inr n ↦ absurd n
+      ]
     ]
 added_draws symbols None (Some new) strokes strokes' labels place ink measure chain h k a = absurd a
 added_draws symbols (Some old) None strokes strokes' labels place ink measure chain h k a = absurd a

@@ -113,9 +113,11 @@ closed_among : (closed : List CifSymbol) (ss : List Symbol) (s : Symbol) → Amo
 closed_among closed [] s i = absurd i
 closed_among closed (r ∷ rs) s (inl e) =
     let f = front_stays (with_symbol closed r) rs in
-    let P : List CifSymbol → Type 0 = λ l. Among l (cif_symbol closed r) in
-    (cif_symbol closed r, subst P (sym f.1) (among_left (with_symbol closed r) f.0 (cif_symbol closed r) (among_right closed (cif_symbol closed r ∷ []) (cif_symbol closed r) (inl refl))),
-      ap (λ (v : Symbol). v.number) e)
+    let P : List CifSymbol → Type 0 = λ l. Among l (cif_symbol closed r) in (
+      cif_symbol closed r,
+      subst P (sym f.1) (among_left (with_symbol closed r) f.0 (cif_symbol closed r) (among_right closed (cif_symbol closed r ∷ []) (cif_symbol closed r) (inl refl))),
+      ap (λ (v : Symbol). v.number) e,
+    )
 closed_among closed (r ∷ rs) s (inr i) = closed_among (with_symbol closed r) rs s i
 
 pub not_found : (symbols : List Symbol) (n : ℕ) → found (reverse (closed_symbols symbols)) n ≡ None → IsIndexOf symbols n None

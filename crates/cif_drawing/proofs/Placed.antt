@@ -12,7 +12,7 @@ use Rattle.cif_drawing.proofs.Axes.{differ, flipped_twice, low_behind, high_behi
 
 pub box_same : (l : Layer) (a b c d a' b' c' d' : ℤ) → a ≡ a' → b ≡ b' → c ≡ c' → d ≡ d'
     → (let r : BoxShape = record { layer = l; x1 = a; y1 = b; x2 = c; y2 = d } in r)
-      ≡ (let r : BoxShape = record { layer = l; x1 = a'; y1 = b'; x2 = c'; y2 = d' } in r)
+    ≡ (let r : BoxShape = record { layer = l; x1 = a'; y1 = b'; x2 = c'; y2 = d' } in r)
 box_same l a b c d a' b' c' d' p q r s =
     ap (λ (v : ℤ). record { layer = l; x1 = v; y1 = b; x2 = c; y2 = d }) p
     ∙ (ap (λ (v : ℤ). record { layer = l; x1 = a'; y1 = v; x2 = c; y2 = d }) q
@@ -54,7 +54,7 @@ orient_behind o p = record {
 
 across_of : (os ps ox oy n : Bool) (x y : ℤ)
     → flipped (differ (cond ps oy ox) n) (cond (differ os ps) y x)
-      ≡ flipped n (cond ps (flipped oy (cond os x y)) (flipped ox (cond os y x)))
+    ≡ flipped n (cond ps (flipped oy (cond os x y)) (flipped ox (cond os y x)))
 across_of true true ox oy n x y = flipped_twice oy n x
 across_of true false ox oy n x y = flipped_twice ox n y
 across_of false true ox oy n x y = flipped_twice oy n y

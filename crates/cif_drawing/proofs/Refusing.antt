@@ -24,9 +24,11 @@ pub clear_more : (before xs : List CifStroke) (s : CifStroke) → NoStrokeFault 
     → NoStrokeFault before (xs ++ s ∷ [])
 clear_more before [] s h k =
     ((λ code f. let P : List CifStroke → Type 0 = λ l. StrokeFault code l s in k code (subst P (sym (append_nil before)) f)), tt)
-clear_more before (x ∷ xs) s h k =
-    (h.0, clear_more (before ++ x ∷ []) xs s h.1
-    (λ code f. let P : List CifStroke → Type 0 = λ l. StrokeFault code l s in k code (subst P (append_assoc before (x ∷ []) xs) f)))
+clear_more before (x ∷ xs) s h k = (
+  h.0,
+  clear_more (before ++ x ∷ []) xs s h.1
+      (λ code f. let P : List CifStroke → Type 0 = λ l. StrokeFault code l s in k code (subst P (append_assoc before (x ∷ []) xs) f)),
+)
 
 pub clear_stroke : (before : List CifStroke) (s : CifStroke) (n count : ℕ) → n ≡ length (stroke_boxes before) → IsCountOf n s count
     → (code : CifCode) → StrokeFault code before s → ⊥

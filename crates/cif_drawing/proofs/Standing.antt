@@ -56,7 +56,7 @@ symbol_still closed more s h = record {
   inks = λ ink i. ink_of_still closed more s.chain ink (h.inks ink i);
   short = h.short;
   measure = (let P : List BoxShape → Type 0 = λ l. IsMeasure s.chain s.measure l in
-  subst P (sym (inks_stay closed more s.inks.items (λ ink i. (h.inks ink i).ink))) h.measure);
+      subst P (sym (inks_stay closed more s.inks.items (λ ink i. (h.inks ink i).ink))) h.measure);
 }
 
 pub cif_symbol_stays : (closed more : List CifSymbol) (s : Symbol) → IsSymbol closed s → cif_symbol (closed ++ more) s ≡ cif_symbol closed s

@@ -120,7 +120,14 @@ impl DrawingBuilder {
     {
         let opening = self.opening.take();
         let measure = Some(Measure::of(b));
-        self.opening = added(opening, &mut self.strokes, place, Ink::Single(b), measure, 0)?;
+        self.opening = added(
+            opening,
+            &mut self.strokes,
+            place,
+            Ink::Single(b),
+            measure,
+            0,
+        )?;
         Ok(())
     }
 
@@ -132,13 +139,15 @@ impl DrawingBuilder {
     pub fn add_boxes(&mut self, place: Place, boxes: Vec<Box2>) -> Result<(), NoMemory>
         ensures { OnOk result (self.new ≡ drawn_parts self.old place boxes.items 0 self.old.opening) }
     {
-        let Some(measure) = measure_boxes(&boxes) else {
-            return Ok(());
-        };
-        let opening = self.opening.take();
-        let ink = Ink::Several(boxes);
-        self.opening = added(opening, &mut self.strokes, place, ink, Some(measure), 0)?;
-        Ok(())
+        match measure_boxes(&boxes) {
+            Some(measure) => {
+                let opening = self.opening.take();
+                let ink = Ink::Several(boxes);
+                self.opening = added(opening, &mut self.strokes, place, ink, Some(measure), 0)?;
+                Ok(())
+            }
+            None => Ok(()),
+        }
     }
 
     /// Draws a polygon with these points, in lambda.
@@ -146,7 +155,13 @@ impl DrawingBuilder {
     /// # Errors
     ///
     /// `NoMemory` where an allocation was refused.
-    pub fn add_polygon(&mut self, alloc: Global, place: Place, layer: Layer, points: &[Point]) -> Result<(), NoMemory>
+    pub fn add_polygon(
+        &mut self,
+        alloc: Global,
+        place: Place,
+        layer: Layer,
+        points: &[Point],
+    ) -> Result<(), NoMemory>
         requires { IsPolygon points.now }
         ensures { OnOk result ((boxes : List BoxShape) × ArePolygonBoxes layer points.now boxes
             × (self.new ≡ drawn_parts self.old place boxes 0 self.old.opening)) }
@@ -167,22 +182,25 @@ impl DrawingBuilder {
         ensures { OnOk result (self.new ≡ drawn_parts self.old place (stepped_boxes steps.now (part_boxes (part_of self.old number)))
             (chain_or_none (part_of self.old number)) self.old.opening) }
     {
-        let Some(index) = self.symbols.index_of(number) else {
-            return Ok(());
-        };
-        let symbols = self.symbols.list();
-        let chain = chain_of_call(&symbols[index]);
-        if chain == 0 {
-            return Ok(());
+        match self.symbols.index_of(number) {
+            Some(index) => {
+                let symbols = self.symbols.list();
+                let chain = chain_of_call(&symbols[index]);
+                if chain == 0 {
+                    return Ok(());
+                }
+                let placement = Placement::of(steps);
+                let ink = Ink::Called(Call {
+                    symbol: index,
+                    placement,
+                });
+                let measure = measure_ink(symbols, &ink);
+                let opening = self.opening.take();
+                self.opening = added(opening, &mut self.strokes, place, ink, measure, chain)?;
+                Ok(())
+            }
+            None => Ok(()),
         }
-        let ink = Ink::Called(Call {
-            symbol: index,
-            placement: Placement::of(steps),
-        });
-        let measure = measure_ink(symbols, &ink);
-        let opening = self.opening.take();
-        self.opening = added(opening, &mut self.strokes, place, ink, measure, chain)?;
-        Ok(())
     }
 
     /// Puts a label.

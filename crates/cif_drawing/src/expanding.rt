@@ -27,7 +27,12 @@ pub fn measure_ink(symbols: &[Symbol], ink: &Ink) -> Option<Measure>
 }
 
 /// Adds the boxes of what stands behind these symbols, placed. A chain of calls is at most 64 deep.
-pub fn expand(symbols: &[Symbol], ink: &Ink, placement: Placement, boxes: &mut Vec<Box2>) -> Result<(), NoMemory>
+pub fn expand(
+    symbols: &[Symbol],
+    ink: &Ink,
+    placement: Placement,
+    boxes: &mut Vec<Box2>,
+) -> Result<(), NoMemory>
     requires symbols { AreSymbols [] symbols.now }
     requires ink { IsInk (closed_symbols symbols.now) ink.now }
     requires short { ink_chain (closed_symbols symbols.now) ink.now ≤ 64 }

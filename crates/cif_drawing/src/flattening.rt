@@ -95,7 +95,12 @@ fn count_boxes(symbols: &[Symbol], strokes: &[Stroke]) -> Result<usize, FlattenF
 }
 
 /// All boxes of the strokes, which are so many.
-fn list_boxes(alloc: Global, symbols: &[Symbol], strokes: &[Stroke], count: usize) -> Result<Vec<Box2>, NoMemory>
+fn list_boxes(
+    alloc: Global,
+    symbols: &[Symbol],
+    strokes: &[Stroke],
+    count: usize,
+) -> Result<Vec<Box2>, NoMemory>
     requires symbols { AreSymbols [] symbols.now }
     requires strokes { AreStrokes (closed_symbols symbols.now) strokes.now }
     requires within { list_all is_box (stroke_boxes (strokes_of symbols.now strokes.now)) ≡ true }

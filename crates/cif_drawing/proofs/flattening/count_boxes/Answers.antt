@@ -19,4 +19,3 @@ pub loop-stroke-preserved : goal.loop-stroke-preserved
 loop-stroke-preserved c =
     counted_next c.args.symbols.now c.args.strokes.now c.loop-stroke.stroke-index c.stroke-item.result c.loop-stroke.count _ c.loop-stroke-test.true c.stroke-item.is
     c.loop-stroke.invariant c.in_ok-count.ensures.count
-

@@ -18,6 +18,6 @@ invariant_of-self c =
           short = omega arith;
           measure = ap (inks_boxes (closed_symbols c.self.inside.symbols)) c.new.ensures.items;
         },
-        not_found c.self.inside.symbols c.args.number (subst P (sym c.self.view_is) c.requires.undefined)
+        not_found c.self.inside.symbols c.args.number (subst P (sym c.self.view_is) c.requires.undefined),
       );
     }
