@@ -1,7 +1,8 @@
 -- Calls, and definitions that are closed.
-use Rattle.std.proofs.Common.{◌≡◌, ◌≢◌, ℕ, zero, suc, ◌+◌, ◌^◌, ◌<◌, ◌≤◌, ◌==◌, cond, max, List, [], ◌∷◌, ◌++◌, length, get_or, map, reverse, fold, Option, Some, None, inl, inr, refl, sym, ◌∙◌, ap, subst, arith}
+use Rattle.std.proofs.Common.{◌≡◌, ◌≢◌, ℕ, zero, suc, Bool, ◌+◌, ◌^◌, ◌<◌, ◌≤◌, ◌==◌, cond, max, List, [], ◌∷◌, ◌++◌, length, get_or, map, reverse, fold, Option, Some, None, inl, inr, refl, sym, ◌∙◌, ap, subst, arith}
 use Rattle.std.specs.List.{flat_map}
 use Rattle.std.proofs.lemmas.List.{reverse-append}
+use Rattle.std.proofs.lemmas.Bool.{ne_eqb}
 use Rattle.rx_text.specs.declared.place.Place.{Place}
 use Rattle.geom.specs.declared.chip.Label.{Label}
 use Rattle.geom.specs.Squares.{BoxShape}
@@ -44,7 +45,9 @@ inks_draw closed (i ∷ is) h some = no_append (ink_boxes closed i) (inks_boxes 
 chain_by : (closed : List CifSymbol) (inks : List Ink) (n : ℕ) → ((i : Ink) → Among inks i → IsInk closed i)
     → chain_if_drawn (inks_boxes closed inks) n ≡ cond (length inks == 0) 0 (n + 1)
 chain_by closed [] n h = refl
-chain_by closed (i ∷ is) n h = some_boxes (inks_boxes closed (i ∷ is)) n (inks_draw closed (i ∷ is) h (λ e. cc))
+chain_by closed (i ∷ is) n h =
+    some_boxes (inks_boxes closed (i ∷ is)) n (inks_draw closed (i ∷ is) h (λ e. cc))
+    ∙ ap (λ (t : Bool). cond t 0 (n + 1)) (sym (ne_eqb (length (i ∷ is)) 0 (λ e. omega (arith, e))))
 
 pub chain_is : (closed : List CifSymbol) (k : ℕ) (s : Symbol) → StandsAt closed k s
     → chain_if_drawn (symbol_at closed k).boxes (symbol_at closed k).chain ≡ cond (length s.inks.items == 0) 0 (s.chain + 1)

@@ -14,7 +14,7 @@ use Rattle.cif_drawing.specs.declared.ink.Symbol.{Symbol}
 use Rattle.cif_drawing.specs.declared.ink.Stroke.{Stroke}
 use Rattle.cif_drawing.specs.declared.measure.Measure.{Measure}
 use Rattle.cif_drawing.specs.Placements.{placed}
-use Rattle.cif_drawing.specs.Measures.{IsMeasure}
+use Rattle.cif_drawing.specs.Measures.{Measures, IsNearExtent, IsMeasure}
 use Rattle.cif_drawing.specs.Inks.{ink_boxes, ink_chain, inks_boxes, cif_symbol, closed_symbols, cif_stroke, strokes_of, drawing_of, symbol_at, IsInk, IsInkOf, IsSymbol, AreSymbols, AreStrokes, IsDrawing}
 use Rattle.cif_drawing.specs.Numbers.{IsIndexOf}
 use Rattle.cif_drawing.specs.Parts.{DrawingParts, drawn_symbol, drawn_parts}
@@ -135,3 +135,10 @@ added_draws symbols (Some old) (Some new) strokes strokes' labels place ink meas
             drawing = drawing_of symbols l labels;
           }) a.1;
     }
+
+pub single_ink : (closed : List CifSymbol) (b : BoxShape) (m : Measure) → Measures m (b ∷ []) → IsNearExtent 0 m.extent → IsNewInk closed (Single b) (Some m) 0
+single_ink closed b m h k = record {
+  is = record { ink = tt; short = omega arith };
+  short = omega arith;
+  measured = ((λ e. cc), h, k);
+}

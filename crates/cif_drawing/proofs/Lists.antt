@@ -27,15 +27,22 @@ among_at (x ∷ xs) (suc i) d h = inr (among_at xs i d (omega arith))
 pub among_item : {X : Type 0} (xs : List X) (i : ℕ) (x : X) → i < length xs → x ≡ get_or xs i x → Among xs x
 among_item {X} xs i x h e = let P : X → Type 0 = λ v. Among xs v in subst P (sym e) (among_at xs i x h)
 
+taken_suc : {X : Type 0} (xs : List X) (i : ℕ) (x : X) → i < length xs → x ≡ get_or xs i x → take (suc i) xs ≡ take i xs ++ x ∷ []
+taken_suc [] i x h e = absurd (omega arith)
+taken_suc (y ∷ ys) zero x h e = ap (λ v. v ∷ []) (sym e)
+taken_suc (y ∷ ys) (suc i) x h e = ap (λ l. y ∷ l) (taken_suc ys i x (omega arith) e)
+
 pub taken_item : {X : Type 0} (xs : List X) (i : ℕ) (x : X) → i < length xs → x ≡ get_or xs i x → take (i + 1) xs ≡ take i xs ++ x ∷ []
-taken_item [] i x h e = absurd (omega arith)
-taken_item (y ∷ ys) zero x h e = ap (λ v. v ∷ []) (sym e)
-taken_item (y ∷ ys) (suc i) x h e = ap (λ l. y ∷ l) (taken_item ys i x (omega arith) e)
+taken_item xs i x h e = let n : i + 1 ≡ suc i = omega arith in ap (λ (k : ℕ). take k xs) n ∙ taken_suc xs i x h e
+
+parted_suc : {X : Type 0} (xs : List X) (i : ℕ) (x : X) → i < length xs → x ≡ get_or xs i x → xs ≡ take i xs ++ x ∷ drop (suc i) xs
+parted_suc [] i x h e = absurd (omega arith)
+parted_suc (y ∷ ys) zero x h e = ap (λ v. v ∷ ys) (sym e)
+parted_suc (y ∷ ys) (suc i) x h e = ap (λ l. y ∷ l) (parted_suc ys i x (omega arith) e)
 
 pub parted_item : {X : Type 0} (xs : List X) (i : ℕ) (x : X) → i < length xs → x ≡ get_or xs i x → xs ≡ take i xs ++ x ∷ drop (i + 1) xs
-parted_item [] i x h e = absurd (omega arith)
-parted_item (y ∷ ys) zero x h e = ap (λ v. v ∷ ys) (sym e)
-parted_item (y ∷ ys) (suc i) x h e = ap (λ l. y ∷ l) (parted_item ys i x (omega arith) e)
+parted_item xs i x h e =
+    let n : suc i ≡ i + 1 = omega arith in parted_suc xs i x h e ∙ ap (λ (k : ℕ). take i xs ++ x ∷ drop k xs) n
 
 pub append_nil : {X : Type 0} (xs : List X) → xs ++ [] ≡ xs
 append_nil [] = refl

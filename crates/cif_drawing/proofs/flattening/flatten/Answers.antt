@@ -13,7 +13,7 @@ returns-in_err-count-clause-fault c =
     let e : strokes_of c.deref.result.now c.deref-2.result.now ≡ c.args.drawing.now.strokes =
     ap (λ (l : List Symbol). strokes_of l c.deref-2.result.now) c.deref.ensures.value
     ∙ (ap (strokes_of c.drawing.inside.symbols.items) c.deref-2.ensures.value ∙ ap (λ (v : CifDrawing). v.strokes) c.drawing.view_is) in
-    let P : List CifStroke → Type 0 = λ l. IsFlattenFault l c.in_err-count.field-0 in
+    let P : List CifStroke → Type 0 = λ l. IsFlattenFault l c.in_err-count.field-0.0 in
     rw (p.1, p.2) (subst P e c.in_err-count.ensures.fault)
 
 pub returns-in_err-boxes-clause-fault : goal.returns-in_err-boxes-clause-fault

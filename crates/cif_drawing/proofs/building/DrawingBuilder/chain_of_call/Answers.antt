@@ -12,7 +12,16 @@ chain_of_call-requires c =
     c.self.invariant.drawing.symbols
 
 pub returns-in-Some : goal.returns-in-Some
-returns-in-Some c = ?
+returns-in-Some c =
+    let P : List Symbol → Type 0 = λ l. c.index-symbols-index.result ≡ get_or l c.in-Some.index c.index-symbols-index.result in
+    let Q : DrawingParts → Type 0 = λ v. Some c.chain_of_call.result ≡ part_chain (part_of v c.args.number) in
+    subst Q c.self.view_is
+    (part_chain_some c.self.inside.symbols c.args.number c.in-Some.index c.index-symbols-index.result c.chain_of_call.result (record {
+      all = c.self.invariant.drawing.symbols;
+      index = c.in-Some.ensures;
+      is = subst P c.list-symbols.ensures c.index-symbols-index.is;
+      chain_of = c.chain_of_call.ensures;
+    }))
 
 pub returns-in-None : goal.returns-in-None
 returns-in-None c =
