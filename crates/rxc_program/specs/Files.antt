@@ -1,12 +1,13 @@
 -- Files of networks that recognise the languages of a specification.
-use Rattle.std.specs.Prelude.{◌≡◌, ⊤, ℕ, ◌*◌, List, length}
+use Rattle.std.specs.Prelude.{◌≡◌, ⊤, ℕ, ◌+◌, ◌*◌, ◌≤◌, List, length}
 use Rattle.geom.specs.declared.chip.Label.{Label}
 use Rattle.geom.specs.declared.chip.Rect.{Rect}
 use Rattle.geom.specs.Squares.{BoxShape, Covered}
 use Rattle.geom.specs.Chips.{IsBoxOf}
 use Rattle.geom.specs.CifRefusals.{DrawsCif}
 use Rattle.rx_lang.specs.Specification.{Specification, Language}
-use Rattle.rx_lang.specs.Positions.{HasTerms, array_rows, array_columns}
+use Rattle.rx_lang.specs.Positions.{HasTerms, array_rows, array_columns, occurrence_symbols}
+use Rattle.rx_lang.specs.Squares.{IsLevel, side_bound}
 use Rattle.switch_net.specs.Circuit.{Circuit}
 use Rattle.switch_net.specs.Recognition.{HasPads, Recognises, ShowsSurely}
 use Rattle.net_text.specs.NetworkText.{IsNetworkText}
@@ -16,11 +17,13 @@ use Rattle.nmos_model.specs.Networks.{StandsFor}
 pub data FileKind : Type 0 where
   network_file : FileKind
   pla_file : FileKind
+  tree_file : FileKind
 
 -- the most symbols in the expressions of a specification that is compiled to such a file
 abbrev pub most_leaves : FileKind → ℕ
 most_leaves network_file = 4096
 most_leaves pla_file = 256
+most_leaves tree_file = 4096
 
 -- ---- what a file stands for
 
@@ -35,6 +38,7 @@ pub record DrawsNetwork (file : List ℕ) (circuit : Circuit) : Type 0 where
 abbrev pub FileStandsFor : FileKind → List ℕ → Circuit → Type 0
 FileStandsFor network_file file circuit = IsNetworkText file circuit
 FileStandsFor pla_file file circuit = DrawsNetwork file circuit
+FileStandsFor tree_file file circuit = DrawsNetwork file circuit
 
 -- A network of the specification: it has the pads of the specification, and from all charges each output is high after t
 -- clocks exactly where the first t input vectors lie in its language; so also in a ternary run, in which no output is unknown.
@@ -61,12 +65,30 @@ pub record HasArraySides (spec : Specification) (file : List ℕ) : Type 0 where
   pub has_terms : HasTerms spec terms
   pub drawn : DrawsBox file (14 * array_columns spec) (14 * array_rows spec terms)
 
+-- how wide and high a block of a tree's layout is, in λ
+abbrev pub block_width : Specification → ℕ
+block_width spec = 140 * (length spec.lines + length spec.symbols + length spec.outputs) + 840
+
+-- The box of a tree's layout has sides of at most so many blocks as a square of its level may have, and an area of at most
+-- 361,267,200 w² n in λ², where n is the number of symbols in the expressions, and w that of lines, symbols and outputs.
+pub record HasTreeSides (spec : Specification) (file : List ℕ) : Type 0 where
+  pub level : ℕ
+  pub is_level : IsLevel (2 * length (occurrence_symbols spec)) level
+  pub width : ℕ
+  pub height : ℕ
+  pub drawn : DrawsBox file width height
+  pub few_columns : width ≤ side_bound level * block_width spec
+  pub few_rows : height ≤ side_bound level * block_width spec
+  pub few_squares : width * height ≤ 361267200 * ((length spec.lines + length spec.symbols + length spec.outputs) * (length spec.lines + length spec.symbols + length spec.outputs)) * length (occurrence_symbols spec)
+
 -- The file is as large as one of its kind is for the specification.
 abbrev pub HasSides : FileKind → Specification → List ℕ → Type 0
 HasSides network_file spec file = ⊤
 HasSides pla_file spec file = HasArraySides spec file
+HasSides tree_file spec file = HasTreeSides spec file
 
--- The file is of this kind, and stands for a network of the specification; of a PLA file the area is that of its formula.
+-- The file is of this kind, and stands for a network of the specification; the area of a PLA file is that of its formula, and the sides of a
+-- tree file are within their bounds.
 pub record IsFileOf (kind : FileKind) (spec : Specification) (file : List ℕ) : Type 0 where
   pub circuit : Circuit
   pub stands : FileStandsFor kind file circuit
