@@ -1,0 +1,13 @@
+//! Large specifications made from a number, for trials and measurements.
+#![tactic(auto)]
+
+mod demo;
+mod draws;
+pub mod examples;
+pub mod laws;
+mod maker;
+mod pile;
+mod sign;
+
+pub use demo::demo_spec;
+pub use rx_text::NoMemory;
