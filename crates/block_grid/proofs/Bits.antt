@@ -8,10 +8,10 @@ pub bit : ℕ → ℕ → ℕ → ℕ
 bit a b r = cond (separates a b r) 1 0
 
 -- k tells whether the border of a number is crossed from a to b
-abbrev pub BitCase : ℕ → ℕ → ℕ → ℕ → Type 0
+abbrev BitCase : ℕ → ℕ → ℕ → ℕ → Type 0
 BitCase k a b r = ((k ≡ 1) × (min a b < r) × (r ≤ max a b)) ⊎ ((k ≡ 0) × ((r ≤ min a b) ⊎ (max a b < r)))
 
-pub bit_cases : (a b r : ℕ) → BitCase (bit a b r) a b r
+bit_cases : (a b r : ℕ) → BitCase (bit a b r) a b r
 unfolding bit
 bit_cases a b r =
     elim (nat_lt a r) as (λ x. nat_lt a r ≡ x → BitCase (cond (cond x (not (nat_lt b r)) (nat_lt b r)) 1 0) a b r) [

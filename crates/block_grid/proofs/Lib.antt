@@ -17,10 +17,3 @@ pub mod Laid
 pub mod Walks
 pub mod Lengthened
 pub mod Uncrossed
-pub mod Marks
-pub mod Rastered
-pub mod BundleEdges
-pub mod GoneOn
-pub mod PortEdges
-pub mod EdgeEnds
-pub mod Leading

@@ -3,5 +3,3 @@ pub mod Lines
 pub mod Sheets
 pub mod Laying
 pub mod Changes
-pub mod Raster
-pub mod Bundles

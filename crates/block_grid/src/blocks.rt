@@ -3,12 +3,10 @@
 ghost use Rattle.std.specs.Prelude.{◌≡◌, ◌+◌, ◌<◌, ◌≤◌, ◌^◌, Bool, None, All, IfOk, IsOk, OnOk, OnErr, ◌∷◌, [], ◌++◌};
 ghost use Rattle.block_grid.specs.Changes.{IsSingle, side_by_side, single, stacked, with_cols, with_rows};
 ghost use Rattle.block_grid.specs.Laying.{MayDraw, MayLay, edge_over, with_edge};
-ghost use Rattle.block_grid.specs.Raster.{AreKinds};
 ghost use Rattle.block_grid.specs.Sheets.{IsSheet, block_at, is_crossed_north, is_crossed_west, stands_at, wire_kind};
 
 use crate::edge::{self, Edge};
 use crate::kind::{BlockKind, Turn};
-use crate::raster;
 use crate::standing::{self, Standing};
 use rx_text::NoMemory;
 use std::alloc::Global;
@@ -184,17 +182,6 @@ impl Blocks {
         }
     }
 
-    /// What all blocks hold, row by row from the north. It takes time in proportion to the blocks and to the length of the edges.
-    ///
-    /// # Errors
-    ///
-    /// `NoMemory` where an allocation was refused.
-    pub fn kinds(&self, alloc: Global) -> Result<Vec<BlockKind>, NoMemory>
-        ensures { IfOk result (λ kinds. AreKinds self.now kinds.items) }
-    {
-        raster::kinds(alloc, self.rows, self.cols, &self.nodes, &self.edges)
-    }
-
     /// The row and the column of the node, or none where it is not there.
     pub fn place_of(&self, node: u32) -> Option<(u32, u32)>
         ensures place { result ≡ stands_at self.now.nodes node }
@@ -270,7 +257,7 @@ impl Blocks {
 }
 
 /// The wire block whose north, south, west and east borders are crossed, where this is so.
-pub(crate) fn wire_kind(north: bool, south: bool, west: bool, east: bool) -> BlockKind
+fn wire_kind(north: bool, south: bool, west: bool, east: bool) -> BlockKind
     ensures { result ≡ wire_kind north south west east }
 {
     match (north, south, west, east) {

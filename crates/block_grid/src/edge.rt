@@ -1,10 +1,9 @@
 // Drawn edges.
 
-ghost use Rattle.std.specs.Prelude.{◌≡◌, ◌+◌, ◌<◌, ◌^◌, ◌++◌, nat_lt, map, length, All, IfOk};
+ghost use Rattle.std.specs.Prelude.{◌≡◌, ◌+◌, ◌<◌, ◌^◌, ◌++◌, nat_lt, map, All, IfOk};
 ghost use Rattle.std.specs.List.{list_any};
 ghost use Rattle.block_grid.specs.Lines.{row_of, col_of, stretch_crossings};
 ghost use Rattle.block_grid.specs.Sheets.{DrawnEdge, north_of, west_of};
-ghost use Rattle.block_grid.specs.Raster.{AddsMarks, IsMarkable, flipped, is_met};
 ghost use Rattle.block_grid.specs.Changes.{StaysBelow, edge_moved, rows_shifted, cols_shifted};
 
 use crate::stretch::{separates, shifted};
@@ -96,41 +95,6 @@ impl Edge {
         crosses_west(here, self.finish, row, col)
     }
 
-    /// Marks the borders between rows that the edge crosses.
-    pub(crate) fn mark_norths(&self, marks: &mut [bool], cols: usize)
-        requires start { IsMarkable cols (length marks.old) self.now.start }
-        requires turns { All (IsMarkable cols (length marks.old)) self.now.turns }
-        requires finish { IsMarkable cols (length marks.old) self.now.finish }
-        ensures { AddsMarks cols marks.old marks.new (λ row col. nat_lt 0 (north_of self.now row col)) }
-    {
-        let mut here = self.start;
-        for there in &self.turns {
-            mark_stretch(marks, cols, here, *there);
-            here = *there;
-        }
-        mark_stretch(marks, cols, here, self.finish);
-    }
-
-    /// Marks the borders between columns that the edge crosses.
-    pub(crate) fn mark_wests(&self, marks: &mut [bool], rows: usize)
-        requires start { IsMarkable rows (length marks.old) (flipped self.now.start) }
-        requires turns { All (λ p. IsMarkable rows (length marks.old) (flipped p)) self.now.turns }
-        requires finish { IsMarkable rows (length marks.old) (flipped self.now.finish) }
-        ensures { AddsMarks rows marks.old marks.new (λ col row. nat_lt 0 (west_of self.now row col)) }
-    {
-        let mut here = self.start;
-        for there in &self.turns {
-            mark_stretch(marks, rows, (here.1, here.0), (there.1, there.0));
-            here = *there;
-        }
-        mark_stretch(
-            marks,
-            rows,
-            (here.1, here.0),
-            (self.finish.1, self.finish.0),
-        );
-    }
-
     /// Makes room for `by` rows before row `at`.
     pub(crate) fn shift_rows(&mut self, at: u32, by: u32)
         requires start { row_of self.old.start + by < 2 ^ 32 }
@@ -153,21 +117,6 @@ impl Edge {
         self.start.1 = shifted(self.start.1, at, by);
         shift_cols(&mut self.turns, at, by);
         self.finish.1 = shifted(self.finish.1, at, by);
-    }
-}
-
-/// Marks the borders between rows that the stretch crosses, where a row has so many columns.
-fn mark_stretch(marks: &mut [bool], cols: usize, from: (u32, u32), to: (u32, u32))
-    requires from { IsMarkable cols (length marks.old) from }
-    requires to { IsMarkable cols (length marks.old) to }
-    ensures { AddsMarks cols marks.old marks.new (is_met from to) }
-{
-    if from.1 == to.1 {
-        let low = from.0.min(to.0);
-        let high = from.0.max(to.0);
-        for row in low..high {
-            marks[(row as usize + 1) * cols + from.1 as usize] = true;
-        }
     }
 }
 

@@ -3,7 +3,6 @@
 ghost use Rattle.std.specs.Prelude.{◌≡◌, ◌+◌, ◌<◌, ◌≤◌, ℕ, true, false, Some, if◌then◌else◌};
 ghost use Rattle.std.specs.Option.{option_map};
 ghost use Rattle.block_grid.specs.declared.kind.BlockKind.TheVariants.{Empty, Horizontal, Vertical};
-ghost use Rattle.block_grid.specs.Bundles.{BundlesEndAtPorts, BundlesGoOn, EdgesHaveEnds, EdgesLead, FoundNodesStand, StandingNodesAreFound};
 ghost use Rattle.block_grid.specs.Changes.{cols_shifted, rows_shifted, shifted, with_cols, with_rows};
 ghost use Rattle.block_grid.specs.Lines.{BlockPlace, col_of, row_of};
 ghost use Rattle.block_grid.specs.Sheets.{IsInOpen, IsOnSheet, IsOutOpen, IsSheet, Sheet, block_at, is_crossed_north, is_crossed_west, stands_at};
@@ -46,23 +45,4 @@ pub fn insertion_moves_nodes()
 pub fn nodes_stand_apart()
     ensures inside { (s : Sheet) → IsSheet s → (v : ℕ) (p : BlockPlace) → stands_at s.nodes v ≡ Some p → IsOnSheet s p }
     ensures apart { (s : Sheet) → IsSheet s → (v w : ℕ) (p : BlockPlace) → stands_at s.nodes v ≡ Some p → stands_at s.nodes w ≡ Some p → v ≡ w }
-{}
-
-/// An edge that comes to a block without a node goes on by another side; at a node's place the edges are those of its ports.
-pub fn bundles_go_on()
-    ensures on { BundlesGoOn }
-    ensures ports { BundlesEndAtPorts }
-{}
-
-/// An edge leaves its parent by the port of its role and comes to its child from the north. From each place that it comes to, it
-/// leads to its child, from place to place over borders that it crosses.
-pub fn edges_lead()
-    ensures ends { EdgesHaveEnds }
-    ensures lead { EdgesLead }
-{}
-
-/// A node stands at the place on which it is found, and is found on the place at which it stands.
-pub fn nodes_are_found()
-    ensures stand { FoundNodesStand }
-    ensures found { StandingNodesAreFound }
 {}

@@ -5,7 +5,6 @@ pub mod blocks;
 pub mod edge;
 pub mod kind;
 pub mod laws;
-mod raster;
 pub mod standing;
 mod stretch;
 

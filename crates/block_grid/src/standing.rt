@@ -21,7 +21,7 @@ pub struct Standing {
 
 impl Standing {
     /// The kind of the block that holds it.
-    pub(crate) fn kind(self) -> BlockKind
+    fn kind(self) -> BlockKind
         ensures { result ≡ node_kind self }
     {
         if self.frame {

@@ -3,7 +3,7 @@ use Rattle.std.proofs.Common.{◌≡◌, ◌↔◌, ℤ, ◌≤ℤ◌, ◌<ℤ�
 use Rattle.std.proofs.lemmas.Int.{ints, by_lt_z}
 use Rattle.geom.specs.Squares.{BoxShape, Inside}
 use Rattle.geom.specs.Rows.{Over}
-use Rattle.canonical_boxes.specs.Plane.{InPlane}
+use Rattle.canonical_boxes.specs.Skies.{InPlane}
 use Rattle.canonical_boxes.proofs.Skies.{over_left}
 
 -- a box has a square or not
@@ -32,18 +32,13 @@ over_cases [] n x y h = inr h
 over_cases (c ∷ cs) n x y (inl h) = inl (inl h)
 over_cases (c ∷ cs) n x y (inr h) = elim (over_cases cs n x y h) [ inl k ↦ inl (inr k) | inr k ↦ inr k ]
 
--- what boxes do not cover, again as a set
-pub outside_squares : (covered free set : List BoxShape) → ((x y : ℤ) → Over free x y ↔ (InPlane x y × (Over covered x y → ⊥)))
-    → ((x y : ℤ) → Over set x y ↔ Over free x y) → (x y : ℤ) → Over set x y ↔ (InPlane x y × (Over covered x y → ⊥))
-outside_squares covered free set gap again x y = ((λ h. (gap x y).0 ((again x y).0 h)), (λ h. (again x y).1 ((gap x y).1 h)))
-
--- what is outside of a set is outside of the boxes that cover it
-pub rest_squares : (boxes covered set : List BoxShape) → ((x y : ℤ) → Over covered x y ↔ Over boxes x y) →
-    ((x y : ℤ) → Over set x y ↔ (InPlane x y × (Over covered x y → ⊥)))
-    → (x y : ℤ) → Over set x y ↔ (InPlane x y × (Over boxes x y → ⊥))
-rest_squares boxes covered set same beyond x y = (
-  (λ h. let two = (beyond x y).0 h in (two.0, (λ o. two.1 ((same x y).1 o)))),
-  (λ h. (beyond x y).1 (h.0, (λ o. h.1 ((same x y).0 o)))),
+-- what boxes do not cover, they cover not
+pub rest_squares : (boxes covered free set : List BoxShape) → ((x y : ℤ) → Over covered x y ↔ Over boxes x y) →
+    ((x y : ℤ) → Over free x y ↔ (InPlane x y × (Over covered x y → ⊥)))
+    → ((x y : ℤ) → Over set x y ↔ Over free x y) → (x y : ℤ) → Over set x y ↔ (InPlane x y × (Over boxes x y → ⊥))
+rest_squares boxes covered free set same gap again x y = (
+  (λ h. let two = (gap x y).0 ((again x y).0 h) in (two.0, (λ o. two.1 ((same x y).1 o)))),
+  (λ h. (again x y).1 ((gap x y).1 (h.0, (λ o. h.1 ((same x y).0 o))))),
 )
 
 module _ (a b outside set : List BoxShape) (within : (x y : ℤ) → Over a x y → InPlane x y)

@@ -6,8 +6,7 @@ use Rattle.geom.specs.Squares.{BoxShape, IsBox, Inside}
 use Rattle.geom.specs.Rows.{Over}
 use Rattle.canonical_boxes.specs.Canonical.{BeginsBefore, AreParted, IsCanonical, IsAt}
 use Rattle.canonical_boxes.specs.Held.{HasColumn}
-use Rattle.canonical_boxes.specs.Plane.{InPlane}
-use Rattle.canonical_boxes.specs.Skies.{IsSky, HasHeight, IsBetween, AddsBelow, IsRaised}
+use Rattle.canonical_boxes.specs.Skies.{InPlane, IsSky, HasHeight, IsBetween, AddsBelow, IsRaised}
 use Rattle.canonical_boxes.proofs.Lists.{Numbered, among_at, at_among, at_one, pair_at, by_order}
 use Rattle.canonical_boxes.proofs.Parted.{OverBy, over_by, over_of}
 

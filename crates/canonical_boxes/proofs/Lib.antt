@@ -1,7 +1,6 @@
 pub mod Lists
 pub mod Chosen
 pub mod Parted
-pub mod Numbers
 pub mod Runs
 pub mod Counts
 pub mod Pairs
@@ -10,7 +9,6 @@ pub mod Sweeps
 pub mod Queries
 pub mod Climbs
 pub mod Held
-pub mod Clips
 pub mod Skies
 pub mod Gapped
 pub mod Combined

@@ -6,7 +6,7 @@ use Rattle.geom.specs.declared.layer.Layer.TheVariants.{Metal}
 use Rattle.geom.specs.Squares.{BoxShape, IsBox, Inside, Covered}
 use Rattle.geom.specs.Merged.{rank, Precedes, Separate, Heads, InRuns, Merges}
 use Rattle.geom.specs.Rows.{Among, Pairwise, Over}
-use Rattle.canonical_boxes.specs.Canonical.{BeginsBefore, AreParted, AreMerged, IsCanonical, IsAt}
+use Rattle.canonical_boxes.specs.Canonical.{BeginsBefore, AreParted, IsCanonical, IsAt}
 use Rattle.canonical_boxes.specs.Chosen.{IsChosen, in_metal}
 use Rattle.canonical_boxes.proofs.Lists.{pair_at, by_order}
 
@@ -60,15 +60,6 @@ all_parted layer (b ∷ bs) runs of = (
   all_parted layer bs runs.2 (λ c i. of c (inr i)),
 )
 
-all_merged : (layer : Layer) (m : List BoxShape) → InRuns m → AreOf layer m → Pairwise AreMerged m
-all_merged layer [] runs of = tt
-all_merged layer (b ∷ bs) runs of = (
-  (λ c i left right.
-      let apart : Separate b c = apart_from b bs c runs.1 i (of b (inl refl) ∙ sym (of c (inr i))) in
-      (apart.above left right, apart.below left right)),
-  all_merged layer bs runs.2 (λ c i. of c (inr i)),
-)
-
 all_ordered : (layer : Layer) (m : List BoxShape) → InRuns m → AreOf layer m → Pairwise BeginsBefore m
 all_ordered layer [] runs of = tt
 all_ordered layer (b ∷ bs) runs of = (
@@ -80,7 +71,6 @@ pub canonical_chosen : (drawn : List BoxShape) (layer : Layer) (m : List BoxShap
 canonical_chosen drawn layer m runs c = record {
   boxes = boxed m (c.runs runs);
   parted = all_parted layer m (c.runs runs) c.layers;
-  merged = all_merged layer m (c.runs runs) c.layers;
   order = all_ordered layer m (c.runs runs) c.layers;
 }
 

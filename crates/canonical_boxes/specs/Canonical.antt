@@ -1,5 +1,5 @@
 -- Boxes that stand for a set of squares, row by row, whatever their layer.
-use Rattle.std.specs.Prelude.{◌≡◌, ◌≢◌, ℕ, ◌<◌, ℤ, ◌<ℤ◌, List, length, slice_index_or, ◌⊎◌}
+use Rattle.std.specs.Prelude.{◌≡◌, ℕ, ◌<◌, ℤ, ◌<ℤ◌, List, length, slice_index_or, ◌⊎◌}
 use Rattle.geom.specs.Squares.{BoxShape, IsBox}
 use Rattle.geom.specs.Merged.{InRow}
 use Rattle.geom.specs.Rows.{Among, Pairwise}
@@ -12,15 +12,10 @@ BeginsBefore a b = (a.y1 <ℤ b.y1) ⊎ ((a.y1 ≡ b.y1) × (a.x1 <ℤ b.x1))
 abbrev pub AreParted : BoxShape → BoxShape → Type 0
 AreParted a b = (y : ℤ) → InRow a y → InRow b y → (a.x2 <ℤ b.x1) ⊎ (b.x2 <ℤ a.x1)
 
--- Of two boxes in the same columns neither begins in the row in which the other ends.
-abbrev pub AreMerged : BoxShape → BoxShape → Type 0
-AreMerged a b = a.x1 ≡ b.x1 → a.x2 ≡ b.x2 → (a.y2 ≢ b.y1) × (b.y2 ≢ a.y1)
-
--- Boxes in order, with a column between any two of them in each row, and as tall as they can be.
+-- Boxes in order, with a column between any two of them in each row.
 pub record IsCanonical (m : List BoxShape) : Type 0 where
   pub boxes : (b : BoxShape) → Among m b → IsBox b
   pub parted : Pairwise AreParted m
-  pub merged : Pairwise AreMerged m
   pub order : Pairwise BeginsBefore m
 
 -- It is the element of this number.

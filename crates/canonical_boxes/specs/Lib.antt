@@ -3,7 +3,6 @@ pub mod Canonical
 pub mod Touches
 pub mod Located
 pub mod Held
-pub mod Plane
 pub mod Laws
 -- Definitions that serve private contracts alone:
 pub mod Chosen

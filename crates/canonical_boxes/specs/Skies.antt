@@ -6,6 +6,13 @@ use Rattle.geom.specs.Squares.{BoxShape}
 use Rattle.geom.specs.Rows.{Over}
 use Rattle.canonical_boxes.specs.declared.gaps.Step.{Step}
 
+-- The square is within 2^40 of the origin, as boxes are.
+pub record InPlane (x y : ℤ) : Type 0 where
+  pub left : neg_ℤ (pos (2 ^ 40)) ≤ℤ x
+  pub right : x <ℤ pos (2 ^ 40)
+  pub bottom : neg_ℤ (pos (2 ^ 40)) ≤ℤ y
+  pub top : y <ℤ pos (2 ^ 40)
+
 -- The first column of each step and its height are within 2^40 of the origin, and a step begins at the edge.
 pub record IsSky (tops : BTreeMap ℤ ℤ) : Type 0 where
   pub ground : IsSome (get int_cmp tops (neg_ℤ (pos (2 ^ 40))))

@@ -12,8 +12,8 @@ use rx_text::NoMemory;
 use std::alloc::Global;
 use std::marker::Model;
 
-/// A set of squares as boxes, whatever their layer: each is a run of the set in all of its rows, no two share a square, none stands
-/// on another in the same columns, and they are ordered by `y1`, then by `x1`. Seen as the list of its boxes.
+/// A set of squares as boxes, whatever their layer: each is a run of the set in all of its rows, no two share a square, and they
+/// are ordered by `y1`, then by `x1`. Seen as the list of its boxes.
 #[derive(Drop)]
 pub struct Canonical {
     boxes: Vec<Box2>,

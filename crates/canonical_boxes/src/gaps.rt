@@ -4,8 +4,7 @@ ghost use Rattle.std.specs.Prelude.{◌≡◌, ◌↔◌, ℤ, pos, neg_ℤ, ◌
 ghost use Rattle.std.specs.Ordering.{int_cmp};
 ghost use Rattle.std.specs.BTreeMap.{get};
 ghost use Rattle.geom.specs.Rows.{Over};
-ghost use Rattle.canonical_boxes.specs.Plane.{InPlane};
-ghost use Rattle.canonical_boxes.specs.Skies.{IsSky, IsStep, IsRaised, IsSplit, IsCleared, AddsBelow, AddsRectangle};
+ghost use Rattle.canonical_boxes.specs.Skies.{IsSky, IsStep, IsRaised, IsSplit, IsCleared, AddsBelow, AddsRectangle, InPlane};
 
 use crate::canonical::Canonical;
 use geom::layer_box::FARTHEST_EDGE;

@@ -5,12 +5,10 @@ ghost use Rattle.geom.specs.Rows.{Among};
 ghost use Rattle.canonical_boxes.specs.Canonical.{IsCanonical, IsAt};
 ghost use Rattle.canonical_boxes.specs.Located.{IsOver, IsLocated};
 ghost use Rattle.canonical_boxes.specs.Held.{Holds, AreHeld, HasColumn, corner};
-ghost use Rattle.canonical_boxes.specs.Plane.{AreHeldInPlane, clamped, clipped};
 
 use crate::canonical::Canonical;
 use crate::locating::locate;
 use crate::standing::begun_among;
-use geom::layer_box::FARTHEST_EDGE;
 use geom::{Box2, Point};
 use rx_text::NoMemory;
 use std::alloc::Global;
@@ -42,51 +40,6 @@ pub fn holds(alloc: Global, set: &Canonical, areas: &[Area]) -> Result<Vec<bool>
         held.push(has_all(boxes, firsts[number], areas[number]))?;
     }
     Ok(held)
-}
-
-/// For each of the rectangles whether the set has all of its squares that boxes can cover. Takes as long as `holds`.
-///
-/// # Errors
-///
-/// `NoMemory` where an allocation was refused.
-pub fn holds_in_plane(alloc: Global, set: &Canonical, areas: &[Area]) -> Result<Vec<bool>, NoMemory>
-    ensures { IfOk result (λ held. AreHeldInPlane set.now areas.now held.items) }
-{
-    let within = clipped_areas(alloc, areas)?;
-    let held = holds(alloc, set, &within)?;
-    Ok(held)
-}
-
-/// The parts of the rectangles that lie in the plane.
-fn clipped_areas(alloc: Global, areas: &[Area]) -> Result<Vec<Area>, NoMemory>
-    ensures { IfOk result (λ within. within.items ≡ map clipped areas.now) }
-{
-    Ok(areas.iter().map(|area| clipped(area)).collect(alloc)?)
-}
-
-/// The part of the rectangle that lies in the plane.
-fn clipped(area: &Area) -> Area
-    ensures { result ≡ clipped area.now }
-{
-    Area {
-        x1: clamped(area.x1),
-        y1: clamped(area.y1),
-        x2: clamped(area.x2),
-        y2: clamped(area.y2),
-    }
-}
-
-/// The edge, or the edge of the plane where it lies beyond that.
-fn clamped(edge: i64) -> i64
-    ensures { result ≡ clamped edge }
-{
-    if edge < -FARTHEST_EDGE {
-        -FARTHEST_EDGE
-    } else if FARTHEST_EDGE < edge {
-        FARTHEST_EDGE
-    } else {
-        edge
-    }
 }
 
 /// The lower left squares of the rectangles.

@@ -12,8 +12,8 @@ mod sweep;
 mod touching;
 
 pub use canonical::Canonical;
-pub use combining::{both, outside, without};
-pub use holding::{Area, holds, holds_in_plane};
+pub use combining::{both, without};
+pub use holding::{Area, holds};
 pub use locating::locate;
 pub use rx_text::NoMemory;
 pub use touching::{Touch, touches};

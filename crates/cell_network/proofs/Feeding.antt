@@ -104,13 +104,13 @@ module _ (c : Counts) where
 
   -- ---- the parent feeds it
 
-  abbrev pub hit : ℕ → ℕ → ℕ
+  abbrev hit : ℕ → ℕ → ℕ
   hit v y = cond (y == v) 1 0
 
-  abbrev pub uses_of : ℕ → List Node → ℕ
+  abbrev uses_of : ℕ → List Node → ℕ
   uses_of v nodes = count_by (λ x. x == v) (flat_map (λ (node : Node). parts node.kind) nodes)
 
-  pub hits : (v y : ℕ) → (y == v) ≡ true → hit v y ≡ 1
+  hits : (v y : ℕ) → (y == v) ≡ true → hit v y ≡ 1
   hits v y e = ap {B = ℕ} (λ b. cond b 1 0) e
 
   two_hits : (v l r : ℕ) → count_by (λ x. x == v) (l ∷ r ∷ []) ≡ hit v l + hit v r
@@ -148,7 +148,7 @@ module _ (c : Counts) where
       rw e (fed_split (suc k) xs ys v (feeds c k x.kind v found))
 
   module _ (table : TreeTable) (t : IsTree table) where
-    pub used : (v : ℕ) → v < length table.nodes → uses_of v table.nodes + hit v table.root ≡ 1
+    used : (v : ℕ) → v < length table.nodes → uses_of v table.nodes + hit v table.root ≡ 1
     used v lt =
         let once = t.used_once v lt in
         omega (arith, once, sum_by-append (hit v) (flat_map (λ (node : Node). parts node.kind) table.nodes) (table.root ∷ []), sum_by-cons (hit v) table.root [])

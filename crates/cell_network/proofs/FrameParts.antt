@@ -28,7 +28,7 @@ module _ (c : Counts) (tables : Tables) (lines : c.lines ≡ length tables.lines
   nets = bundle c + (2 * c.lines + c.outputs + 3)
 
   -- what holds of the gates of each piece holds of all
-  pub each_gate : (P : NamedGate → Type 0) → ((i : ℕ) → i < c.lines → P (complement_gate i)) → ((s : ℕ) → s < c.symbols → P (symbol_gate tables.symbols s))
+  each_gate : (P : NamedGate → Type 0) → ((i : ℕ) → i < c.lines → P (complement_gate i)) → ((s : ℕ) → s < c.symbols → P (symbol_gate tables.symbols s))
       → P (gate In (Stored ∷ [])) → ((y : ℕ) → y < c.outputs → P (output_gate y)) → P (gate Inverse (Master ∷ []))
       → AllByRecursion P (frame_gates tables)
   each_gate P complement symbol start output last =
@@ -153,7 +153,7 @@ module _ (c : Counts) (tables : Tables) (lines : c.lines ≡ length tables.lines
       each_map Aside out_of (frame_gates tables)
       (each_gate (λ g. Aside (out_of g)) (λ i lt. inr (omega arith)) (λ s lt. inl (omega arith)) (inr (omega arith)) (λ y lt. inr (omega arith)) (inr (omega arith)))
 
-  pub loads_differ : Pairs (λ (a b : ℕ). a ≢ b) (own_loads ++ shared_loads)
+  loads_differ : Pairs (λ (a b : ℕ). a ≢ b) (own_loads ++ shared_loads)
   loads_differ =
       pairs_append (λ (a b : ℕ). a ≢ b) own_loads shared_loads (pairs_map (λ (a b : ℕ). a ≢ b) out_of (frame_gates tables) outs_differ)
       (pairs_range (λ (a b : ℕ). a ≢ b) (λ y. number n (Shared y)) 0 c.outputs (λ i j l lt jl e. omega (arith, e, lt)))
@@ -190,7 +190,7 @@ module _ (c : Counts) (tables : Tables) (lines : c.lines ≡ length tables.lines
     ports_counted (3 * bundle c + 16) n.outputs c.outputs,
   )
 
-  pub gates_number : length (frame_gates tables) ≡ c.lines + c.symbols + c.outputs + 2
+  gates_number : length (frame_gates tables) ≡ c.lines + c.symbols + c.outputs + 2
   gates_number = omega (
     arith,
     length-append (decoders ++ gate In (Stored ∷ []) ∷ [] ++ map output_gate (range_with_len 0 (length tables.outputs))) (gate Inverse (Master ∷ []) ∷ []),

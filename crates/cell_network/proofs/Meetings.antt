@@ -15,18 +15,17 @@ use Rattle.cell_network.specs.Meeting.{MeetBy, PartsMeet}
 use Rattle.cell_network.proofs.Feeding.{left_fed, right_fed, root_fed}
 
 -- the wires of a node's part in the whole
-pub record Wires (c : Counts) (v inn : ℕ) (n : Numbering) : Type 0 where
-  pub symbols : n.symbols ≡ symbol_net c
-  pub shared : n.shared ≡ shared_net c
-  pub reset : n.reset ≡ 4
-  pub vdd : n.vdd ≡ 0
-  pub begins : n.inn ≡ inn
-  pub ends : n.out ≡ end_net c v + 1
+record Wires (c : Counts) (v inn : ℕ) (n : Numbering) : Type 0 where
+  symbols : n.symbols ≡ symbol_net c
+  shared : n.shared ≡ shared_net c
+  reset : n.reset ≡ 4
+  begins : n.inn ≡ inn
+  ends : n.out ≡ end_net c v + 1
 
-pub wires_of : (c : Counts) (v inn : ℕ) (kind : NodeKind) → Wires c v inn (home_of_kind c v inn kind)
-wires_of c v inn (Leaf s) = record { symbols = refl; shared = refl; reset = refl; vdd = refl; begins = refl; ends = refl }
-wires_of c v inn (Seq l r) = record { symbols = refl; shared = refl; reset = refl; vdd = refl; begins = refl; ends = refl }
-wires_of c v inn (Alt l r) = record { symbols = refl; shared = refl; reset = refl; vdd = refl; begins = refl; ends = refl }
+wires_of : (c : Counts) (v inn : ℕ) (kind : NodeKind) → Wires c v inn (home_of_kind c v inn kind)
+wires_of c v inn (Leaf s) = record { symbols = refl; shared = refl; reset = refl; begins = refl; ends = refl }
+wires_of c v inn (Seq l r) = record { symbols = refl; shared = refl; reset = refl; begins = refl; ends = refl }
+wires_of c v inn (Alt l r) = record { symbols = refl; shared = refl; reset = refl; begins = refl; ends = refl }
 
 meets : (c : Counts) (v b : ℕ) (above below : Numbering) (inn out : PartNet) → Wires c v b below → above.symbols ≡ symbol_net c → above.shared ≡ shared_net c
     → above.reset ≡ 4 → number above inn ≡ b → number above out ≡ end_net c v + 1 → MeetBy above below inn out

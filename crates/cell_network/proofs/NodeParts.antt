@@ -97,12 +97,12 @@ module _ (c : Counts) where
   kind_transfers_fit (Seq l r) = tt
   kind_transfers_fit (Alt l r) = tt
 
-  pub few_transfers : (kind : NodeKind) → length (kind_transfers (kind_numbers c kind) kind) ≤ 2
+  few_transfers : (kind : NodeKind) → length (kind_transfers (kind_numbers c kind) kind) ≤ 2
   few_transfers (Leaf s) = omega arith
   few_transfers (Seq l r) = omega arith
   few_transfers (Alt l r) = omega arith
 
-  pub six_gates : (nodes : List Node) (node : Node) (kind : NodeKind) → length (kind_gates nodes node kind) ≡ 6
+  six_gates : (nodes : List Node) (node : Node) (kind : NodeKind) → length (kind_gates nodes node kind) ≡ 6
   six_gates nodes node (Leaf s) = refl
   six_gates nodes node (Seq l r) = refl
   six_gates nodes node (Alt l r) = refl

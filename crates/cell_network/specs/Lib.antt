@@ -6,8 +6,4 @@ pub mod Parts
 pub mod Home
 pub mod Whole
 pub mod Meeting
-pub mod Assembled
-pub mod TreeParts
 pub mod Examples
-pub mod WireMeetings
-pub mod CellNetlists

@@ -13,4 +13,3 @@ pub mod Orders
 pub mod KnownNets
 pub mod KnownRuns
 pub mod SureOutputs
-pub mod SameAssemblies

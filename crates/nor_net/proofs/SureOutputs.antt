@@ -1,6 +1,6 @@
 -- The outputs of a netlist that the reset clears are known in every ternary run, and show the languages.
 use Rattle.std.specs.Prelude.{slice_get}
-use Rattle.std.proofs.Common.{◌≡◌, ◌⊎◌, inl, inr, ℕ, zero, suc, ◌<◌, Bool, true, false, List, [], ◌∷◌, Some, refl, sym, subst}
+use Rattle.std.proofs.Common.{◌≡◌, ◌⊎◌, inl, inr, ℕ, zero, suc, ◌<◌, Bool, true, false, List, [], ◌∷◌, length, Some, refl, sym, subst}
 use Rattle.std.specs.List.{AllByRecursion}
 use Rattle.std.proofs.lemmas.List.Elements.{recursion_from_All}
 use Rattle.rx_text.specs.declared.pad_name.Role.{Role}
@@ -14,7 +14,7 @@ use Rattle.switch_net.specs.declared.network.Level.{Level}
 use Rattle.switch_net.specs.declared.network.Level.TheVariants.{Low, High}
 use Rattle.switch_net.specs.declared.network.Pad.{Pad}
 use Rattle.nor_net.specs.Netlist.{Netlist, IsNetlist}
-use Rattle.nor_net.specs.Clearing.{is_driven, ClearsByReset, IsKnownByReset}
+use Rattle.nor_net.specs.Clearing.{is_cleared, is_driven, ClearsByReset, is_known_in, IsKnownByReset}
 use Rattle.nor_net.specs.SwitchForm.{switch_form}
 use Rattle.switch_net.specs.ClockedLogic.{is_fixed}
 use Rattle.nor_net.proofs.Pads.{role_on, first_fixed}

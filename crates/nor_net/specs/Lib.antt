@@ -7,5 +7,3 @@ pub mod Examples
 pub mod Equations
 pub mod Recognised
 pub mod Clearing
-pub mod Assembly
-pub mod PartShapes

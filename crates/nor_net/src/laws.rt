@@ -1,7 +1,6 @@
-//! What holds of every netlist, and of circuits that are put together from parts.
+//! What holds of every netlist.
 
 ghost use Rattle.nor_net.specs.Equations.{ClocksSolve};
-ghost use Rattle.nor_net.specs.Assembly.{AssembliesAreSame};
 
 use switch_net::clocked_logic_settles;
 
@@ -13,9 +12,3 @@ pub fn clocks_solve_the_equations()
 {
     clocked_logic_settles();
 }
-
-/// Two circuits that are put together from the same parts, with the same meetings of ports and the same pads, are the same
-/// network.
-pub fn assemblies_are_the_same()
-    ensures { AssembliesAreSame }
-{}

@@ -2,7 +2,7 @@
 use Rattle.std.proofs.Common.{◌↔◌, ℤ, List, sym, subst, ◌∙◌}
 use Rattle.geom.specs.Squares.{BoxShape}
 use Rattle.geom.specs.Rows.{Over}
-use Rattle.canonical_boxes.specs.Plane.{InPlane}
+use Rattle.canonical_boxes.specs.Skies.{InPlane}
 use Rattle.canonical_boxes.proofs.Combined.{both_squares}
 use Rattle.canonical_boxes.proofs.combining.both.Goals as goal
 

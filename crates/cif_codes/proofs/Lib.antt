@@ -1,9 +1,0 @@
-pub mod Some
-pub mod Remainders
-pub mod Checking
-pub mod Leasts
-pub mod BoxCodes
-pub mod MoveCodes
-pub mod OpeningCodes
-pub mod PointCodes
-pub mod Scaling

@@ -1,5 +1,0 @@
--- Definitions that public contracts cite:
-pub mod Blocks
-pub mod BlockTiles
-pub mod BlockModules
-pub mod Made

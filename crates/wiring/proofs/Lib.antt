@@ -1,7 +1,0 @@
-mod Spans
-mod Ends
-mod Tiles
-mod WireTiles
-mod WirePaths
-mod WireNames
-mod WiringModules

@@ -1,3 +1,0 @@
--- Definitions that public contracts cite:
-pub mod Wirings
-pub mod WiringNets
