@@ -20,3 +20,4 @@ pub mod Weights
 pub mod Stated
 pub mod Specified
 pub mod SymbolBounds
+pub mod MarkBounds
