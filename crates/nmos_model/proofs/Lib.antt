@@ -31,4 +31,5 @@ pub mod Roles
 pub mod ChannelDevices
 pub mod Circuits
 pub mod NearChannels
+pub mod AskedNets
 mod AlikeDrawings
