@@ -15,4 +15,8 @@ mod AllNodes
 mod Permuted
 mod AllEdges
 mod TreeEdges
+mod QuarterNumbers
+mod QuarterMoves
+mod QuarterSheets
+mod QuarterSquares
 mod Whole

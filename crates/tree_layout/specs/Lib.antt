@@ -2,3 +2,4 @@
 pub mod Numbered
 pub mod Squares
 pub mod Drawing
+pub mod Quarters
