@@ -97,9 +97,18 @@ fn probes_want_pads(rt: HostRuntime) -> Result<(), Fail> {
     let waves = Waves::new(rt.alloc());
     assert_eq!(rt; (toggles.kind(), waves.kind()), (1, 2));
     for role in [Role::Vdd, Role::Gnd, Role::Phi1, Role::Phi2, Role::Reset] {
-        assert_eq!(rt; (toggles.wants(0, role), waves.wants(0, role)), (false, false));
+        assert_eq!(rt;
+            (toggles.wants(0, role), waves.wants(0, role)),
+            (false, false)
+        );
     }
-    assert_eq!(rt; (toggles.wants(5, Role::Input), waves.wants(5, Role::Input)), (false, true));
-    assert_eq!(rt; (toggles.wants(6, Role::Output), waves.wants(6, Role::Output)), (true, true));
+    assert_eq!(rt;
+        (toggles.wants(5, Role::Input), waves.wants(5, Role::Input)),
+        (false, true)
+    );
+    assert_eq!(rt;
+        (toggles.wants(6, Role::Output), waves.wants(6, Role::Output)),
+        (true, true)
+    );
     Ok(())
 }
