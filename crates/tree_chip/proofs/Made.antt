@@ -119,14 +119,14 @@ module _ (sheet : Sheet) (tree : TreeTable) (tables : Tables) (of : IsSheetOf tr
       }
 
   wire_number : (i : ℕ) → i < 8 → number_at wires cells (get_or wire_kinds i Empty) ≡ get_or wires i None
-  wire_number 0 h = refl
-  wire_number 1 h = refl
-  wire_number 2 h = refl
-  wire_number 3 h = refl
-  wire_number 4 h = refl
-  wire_number 5 h = refl
-  wire_number 6 h = refl
-  wire_number 7 h = refl
+  wire_number zero h = refl
+  wire_number (suc zero) h = refl
+  wire_number (suc (suc zero)) h = refl
+  wire_number (suc (suc (suc zero))) h = refl
+  wire_number (suc (suc (suc (suc zero)))) h = refl
+  wire_number (suc (suc (suc (suc (suc zero))))) h = refl
+  wire_number (suc (suc (suc (suc (suc (suc zero)))))) h = refl
+  wire_number (suc (suc (suc (suc (suc (suc (suc zero))))))) h = refl
   wire_number (suc (suc (suc (suc (suc (suc (suc (suc i)))))))) h = absurd (omega arith)
 
   -- each kind is that of a block at some place
@@ -208,3 +208,21 @@ module _ (sheet : Sheet) (tree : TreeTable) (tables : Tables) (of : IsSheetOf tr
       some = w.different.some;
       called = kind_called;
     }
+
+    -- so is a chip of these calls
+    pub chip_of : MergedOnce → (found : List Call) → found ≡ calls → (made : ChipShape) → made ≡ record { kinds = kinds; calls = found; labels = labels }
+        → IsTreeChip sheet tree tables made
+    chip_of once found same made is =
+        subst (IsTreeChip sheet tree tables) (sym is)
+        (subst (λ l. IsTreeChip sheet tree tables (record { kinds = kinds; calls = l; labels = labels })) (sym same) (is_tree_chip once))
+
+-- the calls by equal numbers are equal
+pub same_calls : (sheet : Sheet) (found : List Call) (wide width : ℕ) (some wires others cells : List (Option ℕ))
+    → found ≡ calls_in_rows wide sheet.rows sheet.cols (λ row col. number_at some others (block_at sheet row col)) sheet.rows
+    → wide ≡ width → some ≡ wires → others ≡ cells
+    → found ≡ calls_in_rows width sheet.rows sheet.cols (λ row col. number_at wires cells (block_at sheet row col)) sheet.rows
+same_calls sheet found wide width some wires others cells is same_width same_wires same_cells =
+    is
+    ∙ ap (λ (n : ℕ). calls_in_rows n sheet.rows sheet.cols (λ row col. number_at some others (block_at sheet row col)) sheet.rows) same_width
+    ∙ ap (λ (l : List (Option ℕ)). calls_in_rows width sheet.rows sheet.cols (λ row col. number_at l others (block_at sheet row col)) sheet.rows) same_wires
+    ∙ ap (λ (l : List (Option ℕ)). calls_in_rows width sheet.rows sheet.cols (λ row col. number_at wires l (block_at sheet row col)) sheet.rows) same_cells

@@ -19,7 +19,7 @@ use Rattle.tree_chip.specs.KindNumbers.{AreDifferent, GainsKind, AreCellNumbers,
 use Rattle.tree_chip.proofs.SameBlocks.{same_block}
 use Rattle.tree_chip.specs.Signatures.{signature_of}
 
-abbrev Kinds : Type 0
+abbrev pub Kinds : Type 0
 Kinds = List (List BoxShape)
 
 pub front : {X : Type 0} (xs ys : List X) (k : ℕ) (x : X) → slice_get xs k ≡ Some x → slice_get (xs ++ ys) k ≡ Some x
@@ -73,7 +73,7 @@ module _ (old new : Kinds) (number : Option ℕ) (g : GainsKind old new number) 
             | inr k ↦
                 let place : j ≡ length old + 0 = omega (arith, below, long, k) in
                 let last = ap (λ (n : ℕ). get_or (old ++ g.boxes ∷ []) n d) place ∙ get_or-append-add old (g.boxes ∷ []) 0 d in
-                more.2.1 i d (omega (arith, less, place)) (sym first ∙ e ∙ last)
+                more.3 i d (omega (arith, less, place)) (sym first ∙ e ∙ last)
           ];
       some = λ j d below e.
           let long = length-append old (g.boxes ∷ []) in
@@ -82,7 +82,7 @@ module _ (old new : Kinds) (number : Option ℕ) (g : GainsKind old new number) 
             | inr k ↦
                 let place : j ≡ length old + 0 = omega (arith, below, long, k) in
                 let last = ap (λ (n : ℕ). get_or (old ++ g.boxes ∷ []) n d) place ∙ get_or-append-add old (g.boxes ∷ []) 0 d in
-                more.2.0 (sym last ∙ e)
+                more.2 (sym last ∙ e)
           ];
     })
   ]

@@ -18,11 +18,11 @@ use Rattle.node_cell.specs.BlockTiles.{block_plan}
 use Rattle.tree_chip.specs.TreeChips.{block_width, IsTreeChip, KindsAreBlocks}
 
 -- The square lies in so many rows and columns of squares.
-record LiesIn (width : ℕ) (x y : ℤ) : Type 0 where
-  left : pos 0 ≤ℤ x
-  right : x <ℤ pos width
-  bottom : pos 0 ≤ℤ y
-  top : y <ℤ pos width
+pub record LiesIn (width : ℕ) (x y : ℤ) : Type 0 where
+  pub left : pos 0 ≤ℤ x
+  pub right : x <ℤ pos width
+  pub bottom : pos 0 ≤ℤ y
+  pub top : y <ℤ pos width
 
 abbrev IsIn : ℕ → BoxShape → Type 0
 IsIn width b = (pos 0 ≤ℤ b.x1) × (b.x2 ≤ℤ pos width) × (pos 0 ≤ℤ b.y1) × (b.y2 ≤ℤ pos width)

@@ -97,7 +97,12 @@ fn cell_kind(tree: &Tree, node: u32) -> BlockKind
 fn find(signatures: &[Signature], signature: Signature) -> Option<usize>
     ensures { IfSome result (λ at. slice_get signatures.now at ≡ Some signature) }
 {
-    signatures.iter().position(|one| *one == signature)
+    for at in 0..signatures.len() {
+        if signatures[at] == signature {
+            return Some(at);
+        }
+    }
+    None
 }
 
 /// The numbers of the kinds that draw the blocks of bundles alone that stand among these, if they have squares.
@@ -145,11 +150,23 @@ fn number_among(
     ensures numbered { IfOk result (λ number. Among places.now kind → IsNumbered kinds.new.items (block_plan tree.now spec.now kind) number) }
     ensures stands { IfOk result (λ number. (k : ℕ) → number ≡ Some k → Among places.now kind) }
 {
-    if places.iter().any(|place| *place == kind) {
+    if stands_among(places, kind) {
         number_of(alloc, kind, tree, spec, kinds)
     } else {
         Ok(None)
     }
+}
+
+/// Whether the block is one of these.
+fn stands_among(places: &[BlockKind], kind: BlockKind) -> bool
+    ensures { IsTrue result ↔ Among places.now kind }
+{
+    for place in places {
+        if *place == kind {
+            return true;
+        }
+    }
+    false
 }
 
 /// The number of the kind that draws the block, if it has squares. A kind that is new stands behind the others.

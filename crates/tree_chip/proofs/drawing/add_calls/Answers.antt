@@ -16,4 +16,4 @@ loop-col-preserved c =
     let f : ℕ → List Call = λ col. call_at c.args.width line.south col (number col) in
     let col = c.loop-col.col in
     extends c.args.calls.now.items c.loop-col.calls.items c.add_call.new.calls.items (flat_map f (range_with_len 0 col)) (f col) (flat_map f (range_with_len 0 (col + 1)))
-    c.loop-col.invariant (c.in_ok-add_call.ensures ∙ ap (λ o. c.loop-col.calls.items ++ call_at c.args.width line.south col o) c.number_at.ensures) (pieces_more f col)
+    c.loop-col.invariant (c.in_ok-add_call.ensures ∙ ap (λ o. c.loop-col.calls.items ++ call_at c.args.width line.south col o) c.number_at-number.ensures) (pieces_more f col)

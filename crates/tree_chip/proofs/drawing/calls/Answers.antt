@@ -15,9 +15,13 @@ use Rattle.tree_chip.proofs.drawing.calls.Goals as goal
 pub add_calls-requires-clause-line : goal.add_calls-requires-clause-line
 add_calls-requires-clause-line c =
     let sheet = c.args.blocks.now in
-    let most = mul-le (c.loop-row.row + 1) sheet.cols sheet.rows sheet.cols (omega (arith, c.rows-rows.ensures.number)) (omega arith) in
-    let split : (c.loop-row.row + 1) * sheet.cols ≡ c.loop-row.row * sheet.cols + sheet.cols = grind arith in
-    omega (arith, most, split, c.requires.places.size, c.cols-cols.ensures.number)
+    let row = c.loop-row.row in
+    let rows = c.rows-rows.ensures.number in
+    let cols = c.cols-cols.ensures.number in
+    let most = mul-le (row + 1) sheet.cols sheet.rows sheet.cols (omega (arith, rows)) (omega arith) in
+    let split : (row + 1) * sheet.cols ≡ row * sheet.cols + sheet.cols = grind arith in
+    let first = ap (λ (n : ℕ). row * n) cols in
+    omega (arith, most, split, first, cols, c.requires.places.size)
 
 pub loop-row-preserved : goal.loop-row-preserved
 loop-row-preserved c =
