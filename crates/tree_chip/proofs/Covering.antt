@@ -102,15 +102,8 @@ module _ (sheet : Sheet) (tree : TreeTable) (tables : Tables) where
           → CalledAt chip.kinds chip.calls layer x y
       to_call row col r c is_row is_col is_r is_c h = elim (is.places row col is_row is_col) [
         | inl none ↦
-            let at = record {
-              row = r;
-              col = c;
-              is_row = is_r;
-              is_col = is_c;
-              covered = subst (λ (t : ℕ). Covered (boxes t) layer (local_x c (x -ℤ pos (14 * side * col))) (local_y (part row col) r (y -ℤ pos (14 * side * (sheet.rows - 1 - row))))) (tile_is row col r c is_r is_c)
-          (subst (λ (v : ℤ). Covered (boxes (tree_tile sheet tree tables (row * side + r) (col * side + c))) layer (local_x c (x -ℤ pos (14 * side * col))) v) (sym (upward row col r (pos (14 * side * (sheet.rows - 1 - row))) is_row is_r refl))
-          (subst (λ (u : ℤ). Covered (boxes (tree_tile sheet tree tables (row * side + r) (col * side + c))) layer u (local_y whole (row * side + r) y)) (sym (across col c (pos (14 * side * col)) refl)) h)) } in
-            absurd (none layer (x -ℤ pos (14 * side * col)) (y -ℤ pos (14 * side * (sheet.rows - 1 - row))) at)
+            let call : Call = record { kind = 0; x = pos (14 * side * col); y = pos (14 * side * (sheet.rows - 1 - row)) } in
+            absurd (none layer (x -ℤ call.x) (y -ℤ call.y) (up row col r c call is_row is_r is_c (record { x = refl; y = refl }) h))
         | inr some ↦
             let call = some.0 in
             let drawn = some.2.drawn in

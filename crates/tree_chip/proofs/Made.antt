@@ -217,11 +217,11 @@ module _ (sheet : Sheet) (tree : TreeTable) (tables : Tables) (of : IsSheetOf tr
         (subst (λ l. IsTreeChip sheet tree tables (record { kinds = kinds; calls = l; labels = labels })) (sym same) (is_tree_chip once))
 
 -- the calls by equal numbers are equal
-pub same_calls : (sheet : Sheet) (found : List Call) (wide width : ℕ) (some wires others cells : List (Option ℕ))
-    → found ≡ calls_in_rows wide sheet.rows sheet.cols (λ row col. number_at some others (block_at sheet row col)) sheet.rows
-    → wide ≡ width → some ≡ wires → others ≡ cells
+pub same_calls : (sheet : Sheet) (found : List Call) (broad width : ℕ) (some wires others cells : List (Option ℕ))
+    → found ≡ calls_in_rows broad sheet.rows sheet.cols (λ row col. number_at some others (block_at sheet row col)) sheet.rows
+    → broad ≡ width → some ≡ wires → others ≡ cells
     → found ≡ calls_in_rows width sheet.rows sheet.cols (λ row col. number_at wires cells (block_at sheet row col)) sheet.rows
-same_calls sheet found wide width some wires others cells is same_width same_wires same_cells =
+same_calls sheet found broad width some wires others cells is same_width same_wires same_cells =
     is
     ∙ ap (λ (n : ℕ). calls_in_rows n sheet.rows sheet.cols (λ row col. number_at some others (block_at sheet row col)) sheet.rows) same_width
     ∙ ap (λ (l : List (Option ℕ)). calls_in_rows width sheet.rows sheet.cols (λ row col. number_at l others (block_at sheet row col)) sheet.rows) same_wires

@@ -98,11 +98,18 @@ fn find(signatures: &[Signature], signature: Signature) -> Option<usize>
     ensures { IfSome result (λ at. slice_get signatures.now at ≡ Some signature) }
 {
     for at in 0..signatures.len() {
-        if signatures[at] == signature {
+        if same_signature(signatures[at], signature) {
             return Some(at);
         }
     }
     None
+}
+
+/// Whether the two are one signature.
+fn same_signature(one: Signature, other: Signature) -> bool
+    ensures { IsTrue result ↔ (one ≡ other) }
+{
+    one == other
 }
 
 /// The numbers of the kinds that draw the blocks of bundles alone that stand among these, if they have squares.
@@ -161,12 +168,19 @@ fn number_among(
 fn stands_among(places: &[BlockKind], kind: BlockKind) -> bool
     ensures { IsTrue result ↔ Among places.now kind }
 {
-    for place in places {
-        if *place == kind {
+    for at in 0..places.len() {
+        if same_block(places[at], kind) {
             return true;
         }
     }
     false
+}
+
+/// Whether the two blocks are of one kind.
+fn same_block(one: BlockKind, other: BlockKind) -> bool
+    ensures { IsTrue result ↔ (one ≡ other) }
+{
+    one == other
 }
 
 /// The number of the kind that draws the block, if it has squares. A kind that is new stands behind the others.

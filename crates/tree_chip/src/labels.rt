@@ -59,6 +59,7 @@ fn corner_of(blocks: &Blocks, node: u32, side: u32) -> Corner
     requires few { side ≤ 700 }
     ensures west { result.west ≡ side * col_of (place_in blocks.now node) }
     ensures south { result.south + 1 ≡ side * (blocks.now.rows - row_of (place_in blocks.now node)) }
+    ensures inside { row_of (place_in blocks.now node) < blocks.now.rows }
 {
     let (row, col) = place_of(blocks, node);
     Corner {

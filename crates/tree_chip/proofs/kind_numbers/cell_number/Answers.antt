@@ -18,6 +18,11 @@ number_of-requires-clause-kind c =
 pub number_of-requires-clause-few : goal.number_of-requires-clause-few
 number_of-requires-clause-few c = let few = c.requires.numbers.few in omega (arith, few, c.requires.node, c.cell_kind.ensures.few)
 
+pub returns-in-Some : goal.returns-in-Some
+returns-in-Some c =
+    let earlier = rw c.in-Some.is at c.requires.earlier in
+    cell_again c.args.tree.now c.args.spec.now c.args.kinds.now.items c.args.numbers.now c.args.node c.in-Some.at c.requires.numbers earlier.0 earlier.1
+
 pub returns-in-None : goal.returns-in-None
 returns-in-None c =
     let tree = c.args.tree.now in

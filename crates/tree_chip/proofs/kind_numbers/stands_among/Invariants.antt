@@ -3,5 +3,5 @@ use Rattle.std.proofs.Common.{◌≡◌, ℕ, ◌<◌, get_or}
 use Rattle.block_grid.specs.declared.kind.BlockKind.{BlockKind}
 use Rattle.tree_chip.proofs.kind_numbers.stands_among.Given as goal
 
-abbrev pub invariant-loop-place : goal.invariant-loop-place
-invariant-loop-place l = (k : ℕ) (d : BlockKind) → k < l.place-index → get_or l.places k d ≡ l.kind → ⊥
+abbrev pub invariant-loop-at : goal.invariant-loop-at
+invariant-loop-at l = (k : ℕ) (d : BlockKind) → k < l.at → get_or l.places k d ≡ l.kind → ⊥
