@@ -67,7 +67,8 @@ module _ (old new : Kinds) (number : Option ℕ) (g : GainsKind old new number) 
     | inr more ↦ subst AreDifferent (sym more.0) (record {
       differ = λ i j d less below e.
           let long = length-append old (g.boxes ∷ []) in
-          let first : get_or (old ++ g.boxes ∷ []) i d ≡ get_or old i d = get_or_append_left old (g.boxes ∷ []) d i (omega (arith, less, below, long)) in
+          let first : get_or (old ++ g.boxes ∷ []) i d ≡ get_or old i d = get_or_append_left old (g.boxes ∷ []) d i
+          (omega (arith, less, below, long)) in
           elim (cases_lt j (length old)) [
             | inl k ↦ h.differ i j d less k (sym first ∙ e ∙ get_or_append_left old (g.boxes ∷ []) d j k)
             | inr k ↦
@@ -88,7 +89,8 @@ module _ (old new : Kinds) (number : Option ℕ) (g : GainsKind old new number) 
   ]
 
 -- where the boxes are a kind, so they are where they were given a number
-pub numbered_gain : (old new : Kinds) (boxes : List BoxShape) (number : ℕ) → IsKindNumber old boxes number new → boxes ≢ [] → GainsKind old new (Some number)
+pub numbered_gain : (old new : Kinds) (boxes : List BoxShape) (number : ℕ) → IsKindNumber old boxes number new → boxes ≢ [] → GainsKind old new
+    (Some number)
 numbered_gain old new boxes number h some = record {
   boxes = boxes;
   grown = elim h.grown [ inl same ↦ inl same | inr more ↦ inr (more.0, ap Some more.1, some, more.2) ];
@@ -168,7 +170,8 @@ module _ (tree : TreeTable) (tables : Tables) where
     different = record { differ = λ i j d less below e. absurd (omega (arith, below)); some = λ j d below e. absurd (omega (arith, below)) };
   }
 
-  module _ (places : List BlockKind) (first old new : Kinds) (numbers : List (Option ℕ)) (n : ℕ) (number : Option ℕ) (h : AreWireNumbers tree tables places first old numbers n) where
+  module _ (places : List BlockKind) (first old new : Kinds) (numbers : List (Option ℕ)) (n : ℕ) (number : Option ℕ)
+      (h : AreWireNumbers tree tables places first old numbers n) where
     abbrev kind_of : ℕ → BlockKind
     kind_of i = get_or wire_kinds i Empty
 

@@ -20,32 +20,34 @@ module _ (tree : TreeTable) where
   pub none_signed : AreSigned tree [] 0
   none_signed = record { size = omega arith; each = λ v below. absurd (omega (arith, below)) }
 
-  module _ (signatures : List Signature) (n : ℕ) (h : AreSigned tree signatures n) (signature : Signature) (is : signature ≡ signature_of tree n) where
-    -- one more
-    pub signed_more : AreSigned tree (signatures ++ signature ∷ []) (n + 1)
-    signed_more =
-        let size = h.size in
-        let long = length-append signatures (signature ∷ []) in
-        record {
-          size = omega (arith, size, long);
-          each = λ v below. slice_get-get_or (signatures ++ signature ∷ []) v signature (omega (arith, below, size, long)) ∙ ap Some (elim (cases_lt v n) [
-            | inl k ↦
-                get_or_append_left signatures (signature ∷ []) signature v (omega (arith, size, k))
-                ∙ some_is _ _ (sym (slice_get-get_or signatures v signature (omega (arith, size, k))) ∙ h.each v k)
-            | inr k ↦
-                let place : v ≡ length signatures + 0 = omega (arith, size, k, below) in
-                let same : n ≡ v = omega (arith, k, below) in
-                ap (λ (i : ℕ). get_or (signatures ++ signature ∷ []) i signature) place
-                ∙ get_or-append-add signatures (signature ∷ []) 0 signature ∙ is ∙ ap (signature_of tree) same
-          ]);
-        }
+  module _ (signatures : List Signature) (n : ℕ) (h : AreSigned tree signatures n) (signature : Signature) (is : signature ≡ signature_of tree n)
+    where
+      -- one more
+      pub signed_more : AreSigned tree (signatures ++ signature ∷ []) (n + 1)
+      signed_more =
+          let size = h.size in
+          let long = length-append signatures (signature ∷ []) in
+          record {
+            size = omega (arith, size, long);
+            each = λ v below. slice_get-get_or (signatures ++ signature ∷ []) v signature (omega (arith, below, size, long)) ∙ ap Some
+                (elim (cases_lt v n) [
+                  | inl k ↦
+                      get_or_append_left signatures (signature ∷ []) signature v (omega (arith, size, k))
+                      ∙ some_is _ _ (sym (slice_get-get_or signatures v signature (omega (arith, size, k))) ∙ h.each v k)
+                  | inr k ↦
+                      let place : v ≡ length signatures + 0 = omega (arith, size, k, below) in
+                      let same : n ≡ v = omega (arith, k, below) in
+                      ap (λ (i : ℕ). get_or (signatures ++ signature ∷ []) i signature) place
+                      ∙ get_or-append-add signatures (signature ∷ []) 0 signature ∙ is ∙ ap (signature_of tree) same
+                ]);
+          }
 
-    -- a node with this signature stands before this one
-    pub signed_earlier : (found : Option ℕ) → IfSome found (λ at. slice_get signatures at ≡ Some signature)
-        → IfSome found (λ at. (at < n) × (signature_of tree at ≡ signature_of tree n))
-    signed_earlier None e = tt
-    signed_earlier (Some at) e =
-        let size = h.size in
-        let within = slice_get_within signatures at signature e in
-        let below : at < n = omega (arith, size, within) in
-        (below, some_is _ _ (sym (h.each at below) ∙ e) ∙ is)
+      -- a node with this signature stands before this one
+      pub signed_earlier : (found : Option ℕ) → IfSome found (λ at. slice_get signatures at ≡ Some signature)
+          → IfSome found (λ at. (at < n) × (signature_of tree at ≡ signature_of tree n))
+      signed_earlier None e = tt
+      signed_earlier (Some at) e =
+          let size = h.size in
+          let within = slice_get_within signatures at signature e in
+          let below : at < n = omega (arith, size, within) in
+          (below, some_is _ _ (sym (h.each at below) ∙ e) ∙ is)

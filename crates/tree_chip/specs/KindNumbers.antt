@@ -42,7 +42,8 @@ wire_kinds =
 
 -- Behind the kinds that there were each of so many blocks of bundles alone that stand among the places has the number of the kind
 -- that draws it, and each further kind has such a block.
-pub record AreWireNumbers (tree : TreeTable) (tables : Tables) (places : List BlockKind) (old kinds : List (List BoxShape)) (numbers : List (Option ℕ))
+pub record AreWireNumbers (tree : TreeTable) (tables : Tables) (places : List BlockKind) (old kinds : List (List BoxShape))
+    (numbers : List (Option ℕ))
     (n : ℕ) : Type 0 where
   pub size : length numbers ≡ n
   pub more : List (List BoxShape)

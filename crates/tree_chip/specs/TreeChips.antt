@@ -68,7 +68,8 @@ SameSquares a b = (layer : Layer) (x y : ℤ) → Covers a layer x y ↔ Covers 
 -- No call stands at the place of a block without squares.
 abbrev pub BareBlocksStayOut : Sheet → TreeTable → Tables → List Call → Type 0
 BareBlocksStayOut sheet tree tables calls = (row col : ℕ) (call : Call) → row < sheet.rows → col < sheet.cols
-    → HasNoSquares (block_plan tree tables (block_at sheet row col)) → Among calls call → StandsAt (block_width tree tables) sheet.rows row col call → ⊥
+    → HasNoSquares (block_plan tree tables (block_at sheet row col)) → Among calls call → StandsAt (block_width tree tables) sheet.rows row col
+    call → ⊥
 
 -- The calls of blocks of the same squares have one kind.
 abbrev pub SharesKinds : Sheet → TreeTable → Tables → ChipShape → Type 0

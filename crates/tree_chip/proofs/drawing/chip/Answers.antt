@@ -69,6 +69,6 @@ returns-clause-within c =
     } in
     kinds_within c.tiles_keep_inside.ensures sheet tree c.args.spec.now
     (λ row col is_row is_col.
-        (c.blocks_are_modules.ensures tree c.args.spec.now (block_at sheet row col) is_tree c.of-counts.ensures.specification c.requires.symbols
-        (is_block tree (block_at sheet row col) (kind_known tree sheet c.requires.sheet order row col))).is_module.is_plan)
+    (c.blocks_are_modules.ensures tree c.args.spec.now (block_at sheet row col) is_tree c.of-counts.ensures.specification c.requires.symbols
+    (is_block tree (block_at sheet row col) (kind_known tree sheet c.requires.sheet order row col))).is_module.is_plan)
     c.new.result (returns-clause-blocks c)

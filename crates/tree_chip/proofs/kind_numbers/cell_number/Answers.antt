@@ -21,7 +21,8 @@ number_of-requires-clause-few c = let few = c.requires.numbers.few in omega (ari
 pub returns-in-Some : goal.returns-in-Some
 returns-in-Some c =
     let earlier = rw c.in-Some.is at c.requires.earlier in
-    cell_again c.args.tree.now c.args.spec.now c.args.kinds.now.items c.args.numbers.now c.args.node c.in-Some.at c.requires.numbers earlier.0 earlier.1
+    cell_again c.args.tree.now c.args.spec.now c.args.kinds.now.items c.args.numbers.now c.args.node c.in-Some.at c.requires.numbers earlier.0
+    earlier.1
 
 pub returns-in-None : goal.returns-in-None
 returns-in-None c =
@@ -34,6 +35,6 @@ returns-in-None c =
     if_both (GainsKind old new) (IsNumbered new (block_plan tree tables c.cell_kind.result))
     (λ number. AreCellNumbers tree tables new (numbers ++ number ∷ []) (node + 1)) c.number_of.result
     (λ number gains numbered.
-        cell_more tree tables old new numbers node number c.requires.numbers gains
-        (subst (λ (k : BlockKind). IsNumbered new (block_plan tree tables k) number) c.cell_kind.ensures.kind numbered))
+    cell_more tree tables old new numbers node number c.requires.numbers gains
+    (subst (λ (k : BlockKind). IsNumbered new (block_plan tree tables k) number) c.cell_kind.ensures.kind numbered))
     c.number_of.ensures.gains c.number_of.ensures.numbered
