@@ -14,8 +14,8 @@ use Rattle.stick_grid.specs.Windows.{HaveSameTiles, SameTilesAgree}
 use Rattle.block_grid.specs.declared.kind.BlockKind.{BlockKind}
 use Rattle.block_grid.specs.declared.kind.BlockKind.TheVariants.{Empty}
 use Rattle.node_cell.specs.BlockTiles.{block_plan}
-use Rattle.tree_chip.specs.TreeChips.{IsDrawnBy, IsNumbered, IsKindNumber, DrawsPlan}
-use Rattle.tree_chip.specs.KindNumbers.{AreDifferent, GainsKind, AreCellNumbers, AreWireNumbers, cell_kind, wire_kinds}
+use Rattle.tree_chip.specs.TreeChips.{IsDrawnBy, IsNumbered, DrawsPlan}
+use Rattle.tree_chip.specs.KindNumbers.{AreCellNumbers, AreDifferent, AreWireNumbers, GainsKind, IsKindNumber, cell_kind, wire_kinds}
 use Rattle.tree_chip.proofs.SameBlocks.{same_block}
 use Rattle.tree_chip.specs.Signatures.{signature_of}
 

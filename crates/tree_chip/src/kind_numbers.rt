@@ -9,8 +9,8 @@ ghost use Rattle.block_grid.specs.declared.kind.BlockKind.TheVariants.{Empty};
 ghost use Rattle.node_cell.specs.Blocks.{IsBlockOf};
 ghost use Rattle.node_cell.specs.BlockTiles.{block_plan};
 ghost use Rattle.tree_chip.specs.Signatures.{signature_of};
-ghost use Rattle.tree_chip.specs.TreeChips.{DrawsPlan, IsKindNumber, IsNumbered};
-ghost use Rattle.tree_chip.specs.KindNumbers.{AreCellNumbers, AreDifferent, AreWireNumbers, GainsKind, IsCellWithin};
+ghost use Rattle.tree_chip.specs.TreeChips.{DrawsPlan, IsNumbered};
+ghost use Rattle.tree_chip.specs.KindNumbers.{AreCellNumbers, AreDifferent, AreWireNumbers, GainsKind, IsCellWithin, IsKindNumber};
 ghost use Rattle.tree_chip.specs.KindNumbers.{cell_kind, number_at, wire_kinds};
 
 use crate::signature::{Core, Signature, signature_of};

@@ -21,7 +21,9 @@ loop-node-preserved c =
     let n = c.loop-node.node in
     let number = c.in_ok-number.number in
     let kinds = c.cell_number.new.kinds.items in
-    let numbered = subst (λ (l : List (Option ℕ)). AreCellNumbers tree tables kinds (l ++ number ∷ []) (n + 1)) c.deref-in-loop-node-2.ensures.value c.in_ok-number.ensures in (
+    let numbered =
+    subst (λ (l : List (Option ℕ)). AreCellNumbers tree tables kinds (l ++ number ∷ []) (n + 1)) c.deref-in-loop-node-2.ensures.value
+    c.in_ok-number.ensures in (
       subst (λ (l : List (Option ℕ)). AreCellNumbers tree tables kinds l (n + 1)) (sym c.in_ok-push-2.ensures.items) numbered,
       subst (λ (l : List Signature). AreSigned tree l (n + 1)) (sym c.in_ok-push.ensures.items)
           (signed_more tree c.loop-node.signatures.items n c.loop-node.invariant.1 c.signature_of-signature.result c.signature_of-signature.ensures),
