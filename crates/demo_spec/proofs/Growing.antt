@@ -1,5 +1,5 @@
 -- Tables of nodes that grow by a node whose children were on the pile.
-use Rattle.std.proofs.Common.{◌≡◌, ℕ, suc, ◌+◌, ◌<◌, ◌≤◌, ◌==◌, Bool, true, false, Some, List, [], ◌∷◌, ◌++◌, length, map, slice_get, get_or, All, count_by, flat_map, cond, fold, refl, ap, sym, ◌∙◌, subst, inl, inr, arith, length-append, if◌then◌else◌}
+use Rattle.std.proofs.Common.{◌≡◌, ℕ, ◌+◌, ◌<◌, ◌==◌, Bool, true, false, Some, List, [], ◌∷◌, ◌++◌, length, slice_get, get_or, All, count_by, flat_map, cond, fold, refl, ap, sym, ◌∙◌, subst, inl, inr, arith, length-append, if◌then◌else◌}
 use Rattle.std.specs.Prelude.{reverse, Result, Ok, Err, IfOk}
 use Rattle.std.proofs.lemmas.Bool.{cases_lt, cases_order}
 use Rattle.std.proofs.lemmas.List.{append-nil, get_or_append_left, reverse-append}

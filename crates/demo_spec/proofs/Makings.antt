@@ -1,11 +1,11 @@
 -- What draws keep of the expressions that they make, and how often they combine.
-use Rattle.std.proofs.Common.{◌≡◌, ℕ, zero, suc, ◌+◌, ◌-◌, ◌<◌, ◌≤◌, ◌==◌, ◌%◌, Bool, true, false, List, [], ◌∷◌, ◌++◌, length, flat_map, refl, ap, sym, ◌∙◌, arith, length-append, if◌then◌else◌}
+use Rattle.std.proofs.Common.{◌≡◌, ℕ, zero, suc, ◌+◌, ◌-◌, ◌<◌, ◌≤◌, ◌==◌, ◌%◌, Bool, true, false, List, [], ◌∷◌, length, flat_map, refl, ap, sym, ◌∙◌, arith, length-append, if◌then◌else◌}
 use Rattle.rx_lang.specs.Expression.{Expr, symbol, sequence, union, star, plus, optional, marked}
 use Rattle.std.specs.Prelude.{Result, Ok, Err, IfOk}
 use Rattle.std.proofs.lemmas.List.{length-map}
 use Rattle.rx_lang.specs.Copies.{occurrences}
 use Rattle.rx_lang.specs.Tables.{tree_at, trees}
-use Rattle.demo_spec.specs.Generator.{Making, combined, combined_all, combined_by_draws, combined_times, drawn, joined, marked_entry, next_seed, on_top, postfixed, pushed, with_leaf, with_leaves, with_postfix}
+use Rattle.demo_spec.specs.Generator.{Making, combined, combined_all, combined_by_draws, combined_times, drawn, joined, marked_entry, next_seed, on_top, postfixed, pushed, with_leaf, with_leaves}
 use Rattle.demo_spec.specs.Piles.{IsSmall, Made, Piled, leaf_count, making, stack_of}
 
 abbrev after_draw : Making → Making

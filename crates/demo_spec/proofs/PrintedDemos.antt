@@ -1,5 +1,5 @@
 -- The texts of specifications that are made.
-use Rattle.std.proofs.Common.{◌≡◌, ◌∙◌, ℕ, Bool, true, false, List, [], ◌∷◌, ◌++◌, map, All, refl, ap, sym, subst}
+use Rattle.std.proofs.Common.{◌≡◌, ℕ, Bool, true, false, List, ◌++◌, map, All, refl, ap, sym, subst}
 use Rattle.std.proofs.lemmas.List.Elements.{All-from_recursion}
 use Rattle.rx_lang.specs.declared.expr_node.ExprNode.{ExprNode}
 use Rattle.rx_lang.specs.Tables.{IsSpecification, Tables, names, specification}

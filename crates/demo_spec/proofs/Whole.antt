@@ -1,14 +1,14 @@
 -- The tables of a specification that is made.
-use Rattle.std.proofs.Common.{◌≡◌, ℕ, ◌+◌, ◌<◌, ◌≤◌, ◌^◌, ◌==◌, List, [], ◌∷◌, ◌++◌, length, map, slice_get, get_or, All, count_by, flat_map, cond, refl, ap, sym, ◌∙◌, subst, arith, rules, length-append}
-use Rattle.std.specs.Prelude.{◌%◌, ◌≢◌, AllPairs, reverse}
+use Rattle.std.proofs.Common.{◌≡◌, ℕ, ◌<◌, ◌≤◌, ◌^◌, ◌==◌, List, [], ◌∷◌, ◌++◌, length, map, get_or, All, count_by, flat_map, cond, refl, ap, sym, ◌∙◌, subst, arith, rules}
+use Rattle.std.specs.Prelude.{◌≢◌, AllPairs, reverse}
 use Rattle.std.proofs.lemmas.List.{append-nil, length-map, length-reverse}
 use Rattle.std.proofs.lemmas.List.Sums.{sum_by-append}
 use Rattle.rx_lang.specs.declared.expr_node.ExprNode.{ExprNode}
 use Rattle.rx_lang.specs.declared.expr_node.ExprNode.TheVariants.{Leaf, Seq, Alt, Star, Plus, Opt, Mark, Repeat}
 use Rattle.rx_lang.specs.Expression.{Expr, marked}
 use Rattle.rx_lang.specs.Copies.{occurrences}
-use Rattle.rx_lang.specs.Tables.{HasBounds, IsSpecification, NamesEntries, Tables, children, names, specification, table_occurrences, tree_at, trees, uses}
-use Rattle.demo_spec.specs.Generator.{Making, combined_all, demo, marked_entry, on_top, with_leaves}
+use Rattle.rx_lang.specs.Tables.{HasBounds, IsSpecification, NamesEntries, children, names, table_occurrences, tree_at, trees}
+use Rattle.demo_spec.specs.Generator.{combined_all, marked_entry, on_top, with_leaves}
 use Rattle.demo_spec.specs.Piles.{IsPile, IsPlainNode, leaf_count, piled}
 use Rattle.demo_spec.specs.Tables.{demo_tables}
 use Rattle.demo_spec.proofs.Makings.{marked_one, one_whole, whole_leaves}

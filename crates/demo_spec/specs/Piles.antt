@@ -1,5 +1,5 @@
 -- Expressions in a table of nodes, piled up: what stays true of them.
-use Rattle.std.specs.Prelude.{◌≡◌, ℕ, ◌+◌, ◌*◌, ◌<◌, ◌≤◌, ◌==◌, List, [], ◌∷◌, length, map, flat_map, count_by, slice_get, Some, All, ⊤, if◌then◌else◌}
+use Rattle.std.specs.Prelude.{◌≡◌, ℕ, ◌+◌, ◌*◌, ◌<◌, ◌≤◌, ◌==◌, List, length, map, flat_map, count_by, slice_get, Some, All, ⊤, if◌then◌else◌}
 use Rattle.rx_lang.specs.declared.expr_node.ExprNode.{ExprNode}
 use Rattle.rx_lang.specs.declared.expr_node.ExprNode.TheVariants.{Leaf, Seq, Alt, Star, Plus, Opt, Mark, Repeat}
 use Rattle.rx_lang.specs.Expression.{Expr, star, plus, optional, marked}

@@ -6,7 +6,7 @@ use Rattle.rx_lang.specs.Positions.{HasTerms, array_columns, array_rows}
 use Rattle.rx_lang.specs.Squares.{IsLevel}
 use Rattle.report_text.specs.declared.figures.ArrayFigures.{ArrayFigures}
 use Rattle.report_text.specs.declared.figures.Figures.{Figures}
-use Rattle.report_text.specs.Sizes.{array_area, block_width, blocks, leaves, tree_area_bound, tree_side_bound, wires}
+use Rattle.report_text.specs.Sizes.{array_area, blocks, leaves, tree_area_bound, tree_side_bound, wires}
 
 -- the numbers of an array with so many terms, where there is one
 abbrev pub array_figures : Specification → Option ℕ → Option ArrayFigures

@@ -1,8 +1,8 @@
-use Rattle.std.proofs.Common.{◌≡◌, List, length, ap, sym, ◌∙◌}
+use Rattle.std.proofs.Common.{◌≡◌, List, length, ap, ◌∙◌}
 use Rattle.std.specs.Prelude.{reverse}
 use Rattle.rx_lang.specs.Expression.{Expr}
 use Rattle.demo_spec.specs.Generator.{marked_entry, on_top}
-use Rattle.demo_spec.specs.Piles.{IsPile, Made, Piled, piled, signed, stack_of}
+use Rattle.demo_spec.specs.Piles.{Made, Piled, piled, signed, stack_of}
 use Rattle.demo_spec.specs.declared.sign.Sign.TheVariants as sign
 use Rattle.demo_spec.proofs.Makings.{length-stack, marked_one}
 use Rattle.demo_spec.proofs.Whole.{as_stacked, marked_top}
