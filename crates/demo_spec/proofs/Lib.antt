@@ -1,0 +1,4 @@
+pub mod Growing
+pub mod Makings
+pub mod Whole
+pub mod PrintedDemos
