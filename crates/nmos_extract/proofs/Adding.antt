@@ -10,13 +10,12 @@ use Rattle.canonical_boxes.specs.declared.touching.Touch.{Touch}
 use Rattle.canonical_boxes.specs.Canonical.{IsAt, IsCanonical}
 use Rattle.canonical_boxes.specs.Located.{IsOver, IsLocated, AreLocated}
 use Rattle.canonical_boxes.specs.Touches.{AreTouches, IsTouch}
-use Rattle.canonical_boxes.specs.Laws.{AreNumbered, SquaresLeadByTouches}
-use Rattle.canonical_boxes.specs.Laws.BoxesLead as lead
+use Rattle.canonical_boxes.specs.Laws.{BoxesLead, AreNumbered, SquaresLeadByTouches}
 use Rattle.nmos_extract.specs.declared.links.Link.{Link}
 use Rattle.nmos_extract.specs.Corners.{corner}
 use Rattle.nmos_extract.specs.Graphs.{AreBothWays, flipped}
 use Rattle.nmos_extract.specs.Links.{AddsTouches, AddsCuts, AddsFound, link}
-use Rattle.nmos_extract.proofs.Lists.{among_push, among_left, among_last, at_one, at_among, among_at, by_order, map_at, at_read}
+use Rattle.nmos_extract.proofs.Lists.{among_push, among_left, among_last, at_one, at_among, among_at, by_order, map_at, map_size}
 use Rattle.nmos_extract.proofs.NumberOver.{one_located}
 
 at_least : (x : ℤ) → x ≤ℤ x
@@ -158,7 +157,7 @@ cuts_added numbered by_touches places one other canonical first n old new past h
         let start : Inside b b.x1 b.y1 = first_in b (numbered.box places canonical k.0 b k.1.at) in (
           b.x1,
           b.y1,
-          (by_touches places canonical k.0 k.0 b b x y b.x1 b.y1 k.1.at k.1.at k.1.inside start).1 (lead.here k.0),
+          (by_touches places canonical k.0 k.0 b b x y b.x1 b.y1 k.1.at k.1.at k.1.inside start).1 (BoxesLead.here k.0),
           (λ i j p q. h.all k.0 b k.1.at (omega arith) i j p q),
         )
 
@@ -224,3 +223,7 @@ found_added numbered places one other canonical others first n b at (Some i) Non
 found_added numbered places one other canonical others first n b at None g over under old mid new is h =
     let P : List Link → Type 0 = λ ls. AddsBelow places one other first (n + 1) old ls in
     subst P (sym is) (none_found numbered places one other canonical others first n b at None g over under old (λ s t e k. absurd (cc)) mid h)
+
+pub found_size : (m boxes : List BoxShape) (squares : List Point) (found : List (Option ℕ)) → squares ≡ map corner boxes → AreLocated m squares found
+    → length found ≡ length boxes
+found_size m boxes squares found e located = located.size ∙ ap length e ∙ map_size corner boxes

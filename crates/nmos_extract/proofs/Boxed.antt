@@ -9,8 +9,7 @@ use Rattle.geom.specs.Rows.{Over, IsRun}
 use Rattle.canonical_boxes.specs.Canonical.{IsCanonical, IsAt}
 use Rattle.canonical_boxes.specs.Held.{InArea}
 use Rattle.canonical_boxes.specs.Located.{IsOver}
-use Rattle.canonical_boxes.specs.Laws.{AreNumbered, BoxesAreRuns, SquaresLeadByTouches}
-use Rattle.canonical_boxes.specs.Laws.BoxesLead as lead
+use Rattle.canonical_boxes.specs.Laws.{BoxesLead, AreNumbered, BoxesAreRuns, SquaresLeadByTouches}
 use Rattle.nmos_model.specs.Channels.{IsFull}
 use Rattle.nmos_extract.specs.Areas.{above}
 use Rattle.nmos_extract.specs.Sides.{IsFree}
@@ -44,7 +43,7 @@ module _ (numbered : AreNumbered) (runs : BoxesAreRuns) (by_touches : SquaresLea
   -- any two squares of a box lead to each other
   pub inside_leads : (i : ℕ) (b : BoxShape) → IsAt m i b → (x y u v : ℤ) → Inside b x y → Inside b u v → Leads (IsChannel Drawn) x y u v
   inside_leads i b at x y u v p q =
-      leads_within (Over m) (IsChannel Drawn) (λ s t h. (squares s t).0 h) x y u v ((by_touches m canonical i i b b x y u v at at p q).1 (lead.here i))
+      leads_within (Over m) (IsChannel Drawn) (λ s t h. (squares s t).0 h) x y u v ((by_touches m canonical i i b b x y u v at at p q).1 (BoxesLead.here i))
 
   -- the first boxes have nothing on top
   abbrev pub Tops : ℕ → Type 0
@@ -114,7 +113,7 @@ module _ (numbered : AreNumbered) (runs : BoxesAreRuns) (by_touches : SquaresLea
               ]
         ]
 
-    confined : (x y u v : ℤ) → Inside b x y → Leads (IsChannel Drawn) x y u v → Inside b u v
+    pub confined : (x y u v : ℤ) → Inside b x y → Leads (IsChannel Drawn) x y u v → Inside b u v
     confined _ _ _ _ h (here x y) = h
     confined _ _ _ _ h (step x y s t u v side member rest) = confined s t u v (stays x y s t h side member) rest
 

@@ -3,8 +3,6 @@ use Rattle.std.proofs.Common.{◌≡◌, ◌↔◌, ◌⊎◌, inl, inr, ℕ, �
 use Rattle.geom.specs.declared.layer.Layer.{Layer}
 use Rattle.geom.specs.declared.layer.Layer.TheVariants.{Diffusion, Poly, Metal, Cut, Implant}
 use Rattle.geom.specs.Conduction.{ShareSide, Leads, Drawing, Spot, Conducts, IsJoin, Joined}
-use Rattle.geom.specs.Conduction.Leads as leads
-use Rattle.geom.specs.Conduction.Joined as joined
 use Rattle.geom.specs.Squares.{BoxShape}
 use Rattle.geom.specs.Rows.{Among, Over}
 use Rattle.canonical_boxes.specs.Canonical.{IsAt}
@@ -13,7 +11,6 @@ use Rattle.canonical_boxes.specs.Touches.{IsTouch}
 use Rattle.canonical_boxes.specs.Laws.{AreNumbered, SquaresLeadByTouches, AreTouching, BoxesLead}
 use Rattle.canonical_boxes.specs.Laws.BoxesLead.{here, step}
 use Rattle.nmos_model.specs.Classes.{Classing, IsClassing, Linked, Reaches, class_at}
-use Rattle.nmos_model.specs.Classes.Reaches as reaches
 use Rattle.nmos_extract.specs.declared.links.Link.{Link}
 use Rattle.nmos_extract.specs.Conducting.{Conducting, boxes_in, node, node_count, AreConducting}
 use Rattle.nmos_extract.specs.Links.{AreLinks, HasCutLink, IsUnderCut, link}
@@ -38,7 +35,7 @@ module _ (numbered : AreNumbered) (by_touches : SquaresLeadByTouches)
       k.1 ∙ sym there
 
   linked : (a b : ℕ) → a < node_count c → Among links (link a b) ⊎ Among links (link b a) → Alike a b
-  linked a b h k = reached a b h (reaches.step a b b (linked_of both a b ((ways (link a b)).1 k)) (reaches.here b))
+  linked a b h k = reached a b h (Reaches.step a b b (linked_of both a b ((ways (link a b)).1 k)) (Reaches.here b))
 
   within : (layer : Layer) (i : ℕ) (x y : ℤ) → IsOver (boxes_in c layer) x y i → node c layer i < node_count c
   within layer i x y o = below_count c layer i o.at.within
@@ -119,7 +116,7 @@ module _ (numbered : AreNumbered) (by_touches : SquaresLeadByTouches)
   one_join a b i j (inl level) p q =
       let P : Layer → Type 0 = λ l. IsOver (boxes_in c l) a.x a.y i → Alike (node c l i) (node c b.layer j) in
       let path : Leads (Over (boxes_in c b.layer)) a.x a.y b.x b.y =
-      leads.step a.x a.y b.x b.y b.x b.y level.1 (numbered.covers (boxes_in c b.layer) j b.x b.y q) (leads.here b.x b.y) in
+      Leads.step a.x a.y b.x b.y b.x b.y level.1 (numbered.covers (boxes_in c b.layer) j b.x b.y q) (Leads.here b.x b.y) in
       subst P (sym level.0) (λ o. along b.layer a.x a.y b.x b.y i j o q path) p
   one_join a b i j (inr under) p q =
       let P : ℤ → ℤ → Type 0 = λ x y. IsOver (boxes_in c b.layer) x y j in
@@ -129,7 +126,7 @@ module _ (numbered : AreNumbered) (by_touches : SquaresLeadByTouches)
   -- Joined spots have boxes of one class.
   pub joined_alike : (a b : Spot) (i j : ℕ) → Joined Drawn a b → IsOver (boxes_in c a.layer) a.x a.y i → IsOver (boxes_in c b.layer) b.x b.y j
       → Alike (node c a.layer i) (node c b.layer j)
-  joined_alike _ _ i j (joined.here a) p q = same_box a.layer a.x a.y i j p q
-  joined_alike _ _ i j (joined.step a m b join conducts rest) p q =
+  joined_alike _ _ i j (Joined.here a) p q = same_box a.layer a.x a.y i j p q
+  joined_alike _ _ i j (Joined.step a m b join conducts rest) p q =
       let k = numbered.number (boxes_in c m.layer) m.x m.y ((con.squares m.layer m.x m.y).1 conducts) in
       one_join a m i k.0 join p k.1 ∙ joined_alike m b k.0 j rest k.1 q

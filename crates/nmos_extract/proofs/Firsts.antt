@@ -129,4 +129,4 @@ module _ (numbered : AreNumbered) (runs : BoxesAreRuns) (by_touches : SquaresLea
 
             covered : (d : Bool) → IsImplanted Drawn d r → IsCovered implant d b
             covered true h x y k = (covers x y).1 (h x y (in_r x y k))
-            covered false h x y k over = h x y (in_r x y k) ((covers x y).0 over)
+            covered false h x y k = λ over. h x y (in_r x y k) ((covers x y).0 over)

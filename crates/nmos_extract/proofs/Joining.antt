@@ -4,7 +4,6 @@ use Rattle.std.proofs.lemmas.Int.{ints}
 use Rattle.geom.specs.declared.layer.Layer.{Layer}
 use Rattle.geom.specs.declared.layer.Layer.TheVariants.{Diffusion, Poly, Metal, Cut, Implant}
 use Rattle.geom.specs.Conduction.{Leads, Drawing, Spot, Conducts, Joined}
-use Rattle.geom.specs.Conduction.Joined as joined
 use Rattle.geom.specs.Squares.{BoxShape, IsBox}
 use Rattle.geom.specs.Rows.{Among, Over}
 use Rattle.canonical_boxes.specs.Canonical.{IsAt}
@@ -13,7 +12,6 @@ use Rattle.canonical_boxes.specs.Touches.{IsTouch}
 use Rattle.canonical_boxes.specs.Laws.{AreNumbered, SquaresLeadByTouches, AreTouching, BoxesLead}
 use Rattle.canonical_boxes.specs.Laws.BoxesLead.{here, step}
 use Rattle.nmos_model.specs.Classes.{Linked, Reaches}
-use Rattle.nmos_model.specs.Classes.Reaches as reaches
 use Rattle.nmos_extract.specs.declared.links.Link.{Link}
 use Rattle.nmos_extract.specs.Conducting.{Conducting, boxes_in, node, AreConducting}
 use Rattle.nmos_extract.specs.Links.{AreLinks, IsLink, link}
@@ -84,7 +82,7 @@ module _ (numbered : AreNumbered) (by_touches : SquaresLeadByTouches)
       let other : Spot = spot layer x y in
       joined_chain Drawn a metal b (spots_join Metal i i a metal (here i) one (record { layer_is = refl; over = o }))
       (joined_chain Drawn metal other b
-      (joined.step metal other other (inr (refl, refl, (cuts x y).0 h)) ((con.squares layer x y).0 (numbered.covers (boxes_in c layer) j x y k)) (joined.here other))
+      (Joined.step metal other other (inr (refl, refl, (cuts x y).0 h)) ((con.squares layer x y).0 (numbered.covers (boxes_in c layer) j x y k)) (Joined.here other))
       (spots_join layer j j other b (here j) (record { layer_is = refl; over = k }) two))
 
   -- a spot of a node that is linked
@@ -119,7 +117,7 @@ module _ (numbered : AreNumbered) (by_touches : SquaresLeadByTouches)
 
   -- Spots of boxes to which links lead are joined.
   pub reached_joined : (n m : ℕ) → Reaches (targets both) n m → (a b : Spot) → IsIn n a → IsIn m b → Joined Drawn a b
-  reached_joined _ _ (reaches.here n) a b p q = same_spots n a b p q
-  reached_joined _ _ (reaches.step n k m l rest) a b p q =
+  reached_joined _ _ (Reaches.here n) a b p q = same_spots n a b p q
+  reached_joined _ _ (Reaches.step n k m l rest) a b p q =
       let there = one_link n k ((ways (link n k)).0 (of_linked both n k l)) a p in
       joined_chain Drawn a there.0 b there.2 (reached_joined k m rest there.0 b there.1 q)

@@ -118,10 +118,10 @@ first_not_ended m depletion diffusion terminals n b channels at h fails = record
 
 -- what there is of the sides of a box
 pub record AreSides (terminals diffusion : List BoxShape) (b : BoxShape) (held free : Sides) : Type 0 where
-  pub above : IsTrue held.above ↔ Holds terminals (above b)
-  pub below : IsTrue held.below ↔ Holds terminals (below b)
-  pub left : IsTrue held.left ↔ Holds terminals (left_of b)
-  pub right : IsTrue held.right ↔ Holds terminals (right_of b)
+  pub held_above : IsTrue held.above ↔ Holds terminals (above b)
+  pub held_below : IsTrue held.below ↔ Holds terminals (below b)
+  pub held_left : IsTrue held.left ↔ Holds terminals (left_of b)
+  pub held_right : IsTrue held.right ↔ Holds terminals (right_of b)
   pub free_above : IsTrue free.above ↔ IsFree diffusion (above b)
   pub free_below : IsTrue free.below ↔ IsFree diffusion (below b)
   pub free_left : IsTrue free.left ↔ IsFree diffusion (left_of b)
@@ -130,10 +130,10 @@ pub record AreSides (terminals diffusion : List BoxShape) (b : BoxShape) (held f
 pub sides_of : (terminals diffusion boxes : List BoxShape) (held free : Lines) → AreHeldBeside terminals boxes held → AreFreeBeside diffusion boxes free
     → (k : ℕ) (b : BoxShape) → IsAt boxes k b → AreSides terminals diffusion b (sides_at held k) (sides_at free k)
 sides_of terminals diffusion boxes held free h f k b at = record {
-  above = h.above.each k (above b) (map_at above boxes k b at);
-  below = h.below.each k (below b) (map_at below boxes k b at);
-  left = h.left.each k (left_of b) (map_at left_of boxes k b at);
-  right = h.right.each k (right_of b) (map_at right_of boxes k b at);
+  held_above = h.above.each k (above b) (map_at above boxes k b at);
+  held_below = h.below.each k (below b) (map_at below boxes k b at);
+  held_left = h.left.each k (left_of b) (map_at left_of boxes k b at);
+  held_right = h.right.each k (right_of b) (map_at right_of boxes k b at);
   free_above = f.above.each k (above b) (map_at above boxes k b at);
   free_below = f.below.each k (below b) (map_at below boxes k b at);
   free_left = f.left.each k (left_of b) (map_at left_of boxes k b at);
@@ -152,10 +152,10 @@ from_four a b c d p q r s = and_from _ _ (and_from _ _ p q) (and_from _ _ r s)
 
 module _ (terminals diffusion : List BoxShape) (b : BoxShape) (held free : Sides) (h : AreSides terminals diffusion b held free) where
   upright_from : HasSides terminals diffusion true b → ((held.above && held.below) && (free.left && free.right)) ≡ true
-  upright_from s = from_four _ _ _ _ (h.above.1 s.0) (h.below.1 s.1) (h.free_left.1 s.2) (h.free_right.1 s.3)
+  upright_from s = from_four _ _ _ _ (h.held_above.1 s.0) (h.held_below.1 s.1) (h.free_left.1 s.2) (h.free_right.1 s.3)
 
   lying_from : HasSides terminals diffusion false b → ((held.left && held.right) && (free.above && free.below)) ≡ true
-  lying_from s = from_four _ _ _ _ (h.left.1 s.0) (h.right.1 s.1) (h.free_above.1 s.2) (h.free_below.1 s.3)
+  lying_from s = from_four _ _ _ _ (h.held_left.1 s.0) (h.held_right.1 s.1) (h.free_above.1 s.2) (h.free_below.1 s.3)
 
   abbrev Told : Option Bool → Type 0
   Told (Some upright) = HasSides terminals diffusion upright b
@@ -166,8 +166,8 @@ module _ (terminals diffusion : List BoxShape) (b : BoxShape) (held free : Sides
     where
       by_first : (t : Bool) → ((held.above && held.below) && (free.left && free.right)) ≡ t → (u : Bool)
           → ((held.left && held.right) && (free.above && free.below)) ≡ u → Told (if t then Some true else if u then Some false else None)
-      by_first true e u f = let s = four _ _ _ _ e in (h.above.0 s.0, h.below.0 s.1, h.free_left.0 s.2, h.free_right.0 s.3)
-      by_first false e true f = let s = four _ _ _ _ f in (h.left.0 s.0, h.right.0 s.1, h.free_above.0 s.2, h.free_below.0 s.3)
+      by_first true e u f = let s = four _ _ _ _ e in (h.held_above.0 s.0, h.held_below.0 s.1, h.free_left.0 s.2, h.free_right.0 s.3)
+      by_first false e true f = let s = four _ _ _ _ f in (h.held_left.0 s.0, h.held_right.0 s.1, h.free_above.0 s.2, h.free_below.0 s.3)
       by_first false e false f = by_way
         where
           by_way : HasSomeSides terminals diffusion b → ⊥
@@ -179,3 +179,10 @@ module _ (terminals diffusion : List BoxShape) (b : BoxShape) (held free : Sides
 
   pub no_sides : None ≡ direction held free → HasSomeSides terminals diffusion b → ⊥
   no_sides e = subst Told (sym e) told
+
+-- the same of lists that are others
+pub same_channels : (bs m : List BoxShape) (ds depletion : List Bool) (diffusion terminals : List BoxShape) (channels : List Channel) → bs ≡ m
+    → ds ≡ depletion → AreChannelsOf bs ds diffusion terminals channels → AreChannelsOf m depletion diffusion terminals channels
+same_channels bs m ds depletion diffusion terminals channels e f h =
+    subst (λ (x : List BoxShape). AreChannelsOf x depletion diffusion terminals channels) e
+    (subst (λ (x : List Bool). AreChannelsOf bs x diffusion terminals channels) f h)

@@ -17,3 +17,7 @@ pub mod Boxed
 pub mod Firsts
 pub mod Ended
 pub mod Ordered
+pub mod Asked
+pub mod Parts
+pub mod Told
+pub mod Faults

@@ -92,3 +92,30 @@ module _ (c : Conducting) (cut under to_poly to_diffusion : List BoxShape)
 
   pub are_links : AreLinks c cut fifth
   are_links = record { sound = sound; touches = all_touches; poly = poly_linked; diffusion = diffusion_linked }
+
+-- the same of sets and first nodes that are those of the conductors
+pub links_by : (c : Conducting) (cut under to_poly to_diffusion metal poly diffusion : List BoxShape) (to to' : ℕ)
+    → metal ≡ c.metal → poly ≡ c.poly → diffusion ≡ c.diffusion → to ≡ first_node c Poly → to' ≡ first_node c Diffusion
+    → ((x y : ℤ) → Over under x y ↔ (Over cut x y × Over metal x y))
+    → ((x y : ℤ) → Over to_poly x y ↔ (Over under x y × Over poly x y))
+    → ((x y : ℤ) → Over to_diffusion x y ↔ (Over under x y × Over diffusion x y))
+    → (none first second third fourth fifth : List Link) → none ≡ [] → AddsTouches metal 0 none first → AddsTouches poly to first second
+    → AddsTouches diffusion to' second third → AddsCuts to_poly metal poly 0 to third fourth
+    → AddsCuts to_diffusion metal diffusion 0 to' fourth fifth → AreLinks c cut fifth
+links_by c cut under to_poly to_diffusion metal poly diffusion to to' e f g h k is_under is_poly is_diffusion none first second third fourth fifth z
+    metals polys diffusions poly_cuts diffusion_cuts =
+    are_links c cut under to_poly to_diffusion
+    (subst (λ (m : List BoxShape). (x y : ℤ) → Over under x y ↔ (Over cut x y × Over m x y)) e is_under)
+    (subst (λ (m : List BoxShape). (x y : ℤ) → Over to_poly x y ↔ (Over under x y × Over m x y)) f is_poly)
+    (subst (λ (m : List BoxShape). (x y : ℤ) → Over to_diffusion x y ↔ (Over under x y × Over m x y)) g is_diffusion)
+    first second third fourth fifth
+    (subst (λ (ls : List Link). AddsTouches c.metal 0 ls first) z (subst (λ (m : List BoxShape). AddsTouches m 0 none first) e metals))
+    (subst (λ (n : ℕ). AddsTouches c.poly n first second) h (subst (λ (m : List BoxShape). AddsTouches m to first second) f polys))
+    (subst (λ (n : ℕ). AddsTouches c.diffusion n second third) k
+    (subst (λ (m : List BoxShape). AddsTouches m to' second third) g diffusions))
+    (subst (λ (n : ℕ). AddsCuts to_poly c.metal c.poly 0 n third fourth) h
+    (subst (λ (m : List BoxShape). AddsCuts to_poly c.metal m 0 to third fourth) f
+    (subst (λ (m : List BoxShape). AddsCuts to_poly m poly 0 to third fourth) e poly_cuts)))
+    (subst (λ (n : ℕ). AddsCuts to_diffusion c.metal c.diffusion 0 n fourth fifth) k
+    (subst (λ (m : List BoxShape). AddsCuts to_diffusion c.metal m 0 to' fourth fifth) g
+    (subst (λ (m : List BoxShape). AddsCuts to_diffusion m diffusion 0 to' fourth fifth) e diffusion_cuts)))

@@ -1,6 +1,6 @@
 -- Elements of lists, by number.
-use Rattle.std.proofs.Common.{◌≡◌, ℕ, zero, suc, ◌<◌, ◌≤◌, ◌+◌, pos, List, [], ◌∷◌, ◌++◌, ◌⊎◌, inl, inr, length, map, get_or, refl, sym, ◌∙◌, ap, arith, subst}
-use Rattle.std.proofs.lemmas.List.{get_or_default}
+use Rattle.std.proofs.Common.{◌≡◌, ℕ, zero, suc, ◌<◌, ◌≤◌, ◌+◌, pos, List, [], ◌∷◌, ◌++◌, ◌⊎◌, inl, inr, length, map, get_or, take, refl, sym, ◌∙◌, ap, arith, subst}
+use Rattle.std.proofs.lemmas.List.{get_or_default, take_more}
 use Rattle.std.proofs.lemmas.Int.{ints, by_lt_z}
 use Rattle.geom.specs.Rows.{Among, Pairwise}
 use Rattle.canonical_boxes.specs.Canonical.{IsAt}
@@ -73,7 +73,7 @@ get_beyond (x ∷ xs) (suc i) d h = get_beyond xs i d (omega arith)
 -- what holds of each two elements by their numbers
 pub pairwise_of : {X : Type 0} (R : X → X → Type 0) (xs : List X) → ((i j : ℕ) (x y : X) → IsAt xs i x → IsAt xs j y → i < j → R x y) → Pairwise R xs
 pairwise_of R [] h = tt
-pairwise_of R (x ∷ xs) h = (
+pairwise_of {X} R (x ∷ xs) h = (
   (λ y i. let n = among_at xs y i in h 0 (suc n.number) x y (head x xs) (behind x xs n.number y n.at) (omega arith)),
   pairwise_of R xs (λ i j a b p q l. h (suc i) (suc j) a b (behind x xs i a p) (behind x xs j b q) (omega arith)),
 )
@@ -83,3 +83,13 @@ pairwise_of R (x ∷ xs) h = (
 
     behind : (x : X) (xs : List X) (i : ℕ) (y : X) → IsAt xs i y → IsAt (x ∷ xs) (suc i) y
     behind x xs i y h = let w : i < length xs = h.within in record { within = omega arith; is = h.is }
+
+map_push : {X Y : Type 0} (f : X → Y) (xs : List X) (x : X) → map f (xs ++ x ∷ []) ≡ map f xs ++ f x ∷ []
+map_push f [] x = refl
+map_push f (y ∷ ys) x = ap (λ zs. f y ∷ zs) (map_push f ys x)
+
+-- one more entry
+pub map_more : {X Y : Type 0} (f : X → Y) (xs : List X) (i : ℕ) (d : X) (old new : List Y) → i < length xs → new ≡ old ++ f (get_or xs i d) ∷ []
+    → old ≡ map f (take i xs) → new ≡ map f (take (i + 1) xs)
+map_more f xs i d old new h e k =
+    e ∙ ap (λ ys. ys ++ f (get_or xs i d) ∷ []) k ∙ sym (ap (map f) (take_more xs i d h) ∙ map_push f (take i xs) (get_or xs i d))

@@ -46,11 +46,12 @@ located_later b bs x y None e none = λ h. elim h [
 -- It is the number of the box over the square, or no box is.
 pub number_located : (m : List BoxShape) (x y : ℤ) → IsLocated m x y (number_over m x y)
 number_located [] x y = λ h. h
-number_located (b ∷ bs) x y = by_test (is_inside b x y) refl
+number_located (b ∷ bs) x y = by_test (number_located bs x y) (is_inside b x y) refl
   where
-    by_test : (t : Bool) → is_inside b x y ≡ t → IsLocated (b ∷ bs) x y (if t then Some 0 else later (number_over bs x y))
-    by_test true e = record { box = b; at = record { within = omega arith; is = refl }; inside = inside_is b x y e }
-    by_test false e = located_later b bs x y (number_over bs x y) e (number_located bs x y)
+    by_test : IsLocated bs x y (number_over bs x y) → (t : Bool) → is_inside b x y ≡ t
+        → IsLocated (b ∷ bs) x y (if t then Some 0 else later (number_over bs x y))
+    by_test rest true e = record { box = b; at = record { within = omega arith; is = refl }; inside = inside_is b x y e }
+    by_test rest false e = located_later b bs x y (number_over bs x y) e rest
 
 module _ (numbered : AreNumbered) (m : List BoxShape) (canonical : IsCanonical m) (x y : ℤ) where
   -- There is one answer.

@@ -4,7 +4,6 @@ use Rattle.geom.specs.declared.layer.Layer.{Layer}
 use Rattle.geom.specs.Rows.{Squares}
 use Rattle.geom.specs.Conduction.{IsNext, ShareSide, Leads, Drawing, Spot, Conducts, IsJoin, Joined}
 use Rattle.geom.specs.Conduction.Leads.{here, step}
-use Rattle.geom.specs.Conduction.Joined as joined
 
 -- ---- squares
 
@@ -34,8 +33,8 @@ leads_back S _ _ _ _ h (step x y a b u v side member p) =
 -- ---- spots
 
 pub joined_chain : (Drawn : Drawing) (a b c : Spot) → Joined Drawn a b → Joined Drawn b c → Joined Drawn a c
-joined_chain Drawn _ _ c (joined.here a) q = q
-joined_chain Drawn _ _ c (joined.step a m b join conducts rest) q = joined.step a m c join conducts (joined_chain Drawn m b c rest q)
+joined_chain Drawn _ _ c (Joined.here a) q = q
+joined_chain Drawn _ _ c (Joined.step a m b join conducts rest) q = Joined.step a m c join conducts (joined_chain Drawn m b c rest q)
 
 join_back : (Drawn : Drawing) (a b : Spot) → IsJoin Drawn a b → IsJoin Drawn b a
 join_back Drawn a b join = elim join [
@@ -44,9 +43,9 @@ join_back Drawn a b join = elim join [
 ]
 
 pub joined_back : (Drawn : Drawing) (a b : Spot) → Conducts Drawn a.layer a.x a.y → Joined Drawn a b → Joined Drawn b a
-joined_back Drawn _ _ h (joined.here a) = joined.here a
-joined_back Drawn _ _ h (joined.step a m b join conducts rest) =
-    joined_chain Drawn b m a (joined_back Drawn m b conducts rest) (joined.step m a a (join_back Drawn a m join) h (joined.here a))
+joined_back Drawn _ _ h (Joined.here a) = Joined.here a
+joined_back Drawn _ _ h (Joined.step a m b join conducts rest) =
+    joined_chain Drawn b m a (joined_back Drawn m b conducts rest) (Joined.step m a a (join_back Drawn a m join) h (Joined.here a))
 
 -- the square in the layer
 abbrev pub spot : Layer → ℤ → ℤ → Spot
@@ -54,6 +53,6 @@ spot layer x y = record { layer = layer; x = x; y = y }
 
 -- a path of squares that conduct in a layer joins them
 pub joined_along : (Drawn : Drawing) (layer : Layer) (x y u v : ℤ) → Leads (Conducts Drawn layer) x y u v → Joined Drawn (spot layer x y) (spot layer u v)
-joined_along Drawn layer _ _ _ _ (here x y) = joined.here (spot layer x y)
+joined_along Drawn layer _ _ _ _ (here x y) = Joined.here (spot layer x y)
 joined_along Drawn layer _ _ _ _ (step x y a b u v side member p) =
-    joined.step (spot layer x y) (spot layer a b) (spot layer u v) (inl (refl, side)) member (joined_along Drawn layer a b u v p)
+    Joined.step (spot layer x y) (spot layer a b) (spot layer u v) (inl (refl, side)) member (joined_along Drawn layer a b u v p)

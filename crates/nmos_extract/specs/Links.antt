@@ -36,8 +36,8 @@ AddsFound first (Some i) None old new = new ≡ old
 AddsFound first None other old new = new ≡ old
 
 -- The square has a cut, metal, and the layer conducts there.
-pub record IsUnderCut (c : Conducting) (cut : List BoxShape) (layer : Layer) (x y : ℤ) : Type 0 where
-  pub cut : Over cut x y
+pub record IsUnderCut (c : Conducting) (cuts : List BoxShape) (layer : Layer) (x y : ℤ) : Type 0 where
+  pub cut : Over cuts x y
   pub metal : Over c.metal x y
   pub conducts : Over (boxes_in c layer) x y
 

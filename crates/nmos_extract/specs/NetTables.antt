@@ -1,17 +1,24 @@
 -- The net of each conducting square, looked up in the classes of boxes.
-use Rattle.std.specs.Prelude.{ℕ, suc, ◌+◌, ◌&&◌, ℤ, int_le, int_lt, Bool, if◌then◌else◌, List, [], ◌∷◌, length, Option, Some, None}
+use Rattle.std.specs.Prelude.{◌≡◌, ℕ, suc, ◌+◌, ◌<◌, ◌≤◌, ◌^◌, ◌&&◌, ℤ, int_le, int_lt, Bool, if◌then◌else◌, List, [], ◌∷◌, length, Option, Some, None}
 use Rattle.geom.specs.declared.layer.Layer.{Layer}
 use Rattle.geom.specs.declared.layer.Layer.TheVariants.{Diffusion, Poly, Metal, Cut, Implant}
 use Rattle.geom.specs.declared.point.Point.{Point}
 use Rattle.geom.specs.Squares.{BoxShape}
 use Rattle.nmos_model.specs.declared.sites.Site.{Site}
 use Rattle.nmos_model.specs.Classes.{Classing, class_at}
-use Rattle.nmos_extract.specs.Conducting.{Conducting, boxes_in, first_node}
+use Rattle.nmos_extract.specs.Conducting.{AreSets, Conducting, boxes_in, first_node, node_count}
 
 -- the boxes that conduct, and their classes
 pub record NetTable : Type 0 where
   pub conductors : Conducting
   pub classes : Classing
+
+-- Each layer's boxes are canonical, each node has an entry, and nodes have numbers of 32 bits.
+pub record IsTable (table : NetTable) : Type 0 where
+  pub sets : AreSets table.conductors
+  pub size : length table.classes.numbers ≡ node_count table.conductors
+  pub few : node_count table.conductors < 2 ^ 32
+  pub fewer : length table.classes.firsts ≤ node_count table.conductors
 
 -- the square lies in the box
 abbrev pub is_inside : BoxShape → ℤ → ℤ → Bool

@@ -18,9 +18,9 @@ IsCovered implant true b = (x y : ℤ) → Inside b x y → Over implant x y
 IsCovered implant false b = (x y : ℤ) → Inside b x y → Over implant x y → ⊥
 
 -- No square of the set lies right above the box, which lies wholly under implant or beside it.
-pub record IsRegion (m implant : List BoxShape) (depletion : Bool) (b : BoxShape) : Type 0 where
+pub record IsRegion (m implanted : List BoxShape) (depletion : Bool) (b : BoxShape) : Type 0 where
   pub top : IsFree m (above b)
-  pub implant : IsCovered implant depletion b
+  pub implant : IsCovered implanted depletion b
 
 abbrev pub IsSomeRegion : List BoxShape → List BoxShape → BoxShape → Type 0
 IsSomeRegion m implant b = (depletion : Bool) × IsRegion m implant depletion b

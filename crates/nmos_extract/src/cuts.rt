@@ -1,6 +1,7 @@
 // Links between boxes of two layers that cuts join.
 
 ghost use Rattle.std.specs.Prelude.{◌≡◌, ◌<◌, ◌+◌, ◌^◌, length, map, IfOk, IfSome, OnOk};
+ghost use Rattle.canonical_boxes.specs.Canonical.{IsCanonical};
 ghost use Rattle.nmos_extract.specs.Corners.{corner};
 ghost use Rattle.nmos_extract.specs.Links.{AddsCuts, AddsFound};
 
@@ -23,6 +24,8 @@ pub(crate) fn add_cuts(
 ) -> Result<(), NoMemory>
     requires one { length one.now < 2 ^ 32 }
     requires other { first + length other.now < 2 ^ 32 }
+    requires one_set { IsCanonical one.now }
+    requires other_set { IsCanonical other.now }
     ensures { OnOk result (AddsCuts places.now one.now other.now 0 first links.old.items links.new.items) }
 {
     boxes_are_numbered();
@@ -32,7 +35,9 @@ pub(crate) fn add_cuts(
     let ones = locate(alloc, one, &squares)?;
     let others = locate(alloc, other, &squares)?;
     for at in 0..boxes.len() {
-        add_found(first, ones[at], others[at], links)?;
+        let from = ones[at];
+        let to = others[at];
+        add_found(first, from, to, links)?;
     }
     Ok(())
 }

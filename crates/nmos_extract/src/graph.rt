@@ -55,6 +55,7 @@ impl LinkGraph {
     /// How many links lead from nodes before this one: they stand first.
     fn begin(&self, node: u32) -> usize
         ensures within { result ≤ length self.now.links }
+        ensures few { length self.now.links < 0x1_0000_0000 }
         ensures numbers { (k : ℕ) (l : Link) → IsAt self.now.links k l → (k < result) ↔ (is_before node l ≡ true) }
     {
         self.links.partition_point(|l| is_before(l, node))
@@ -63,7 +64,6 @@ impl LinkGraph {
     /// How many links lead from nodes up to this one: they stand first.
     fn end(&self, node: u32) -> usize
         ensures within { result ≤ length self.now.links }
-        ensures few { length self.now.links < 0x1_0000_0000 }
         ensures numbers { (k : ℕ) (l : Link) → IsAt self.now.links k l → (k < result) ↔ (is_up_to node l ≡ true) }
     {
         self.links.partition_point(|l| is_up_to(l, node))
@@ -121,13 +121,17 @@ impl Graph for LinkGraph {
     fn link_count(&self, node: u32) -> u32
         ensures { result ≡ length (targets self.now.links node) }
     {
-        (self.end(node) - self.begin(node)) as u32
+        let begin = self.begin(node);
+        let end = self.end(node);
+        (end - begin) as u32
     }
 
     fn link(&self, node: u32, at: u32) -> Option<u32>
         requires { at < length (targets self.now.links node) }
         ensures { Some result ≡ slice_get (targets self.now.links node) at }
     {
-        Some(self.links[self.begin(node) + at as usize].to)
+        let begin = self.begin(node);
+        let number = begin + at as usize;
+        Some(self.links[number].to)
     }
 }

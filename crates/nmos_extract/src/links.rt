@@ -1,7 +1,7 @@
 // Links between boxes that conduct.
 
 ghost use Rattle.std.specs.Prelude.{◌≡◌, ◌<◌, ◌+◌, ◌^◌, length, IfOk, OnOk};
-ghost use Rattle.nmos_extract.specs.Conducting.{node_count};
+ghost use Rattle.nmos_extract.specs.Conducting.{AreSets, node_count};
 ghost use Rattle.nmos_extract.specs.Links.{AddsTouches, AreLinks, link};
 
 use crate::conductors::Conductors;
@@ -25,7 +25,8 @@ pub(crate) fn links_of(
     conductors: &Conductors<'_>,
     cut: &Canonical,
 ) -> Result<Vec<Link>, NoMemory>
-    requires { node_count conductors.now < 2 ^ 32 }
+    requires few { node_count conductors.now < 2 ^ 32 }
+    requires sets { AreSets conductors.now }
     ensures { IfOk result (λ links. AreLinks conductors.now cut.now links.items) }
 {
     let metal = conductors.metal();

@@ -30,15 +30,13 @@ pub(crate) struct Nets<'a> {
 }
 
 impl<'a> Model for Nets<'a> {
-    ghost use Rattle.std.specs.Prelude.{◌≡◌, ◌≤◌, ◌<◌, ◌^◌, length};
-    ghost use Rattle.nmos_extract.specs.Conducting.{node_count};
-    ghost use Rattle.nmos_extract.specs.NetTables.{NetTable};
+    ghost use Rattle.nmos_extract.specs.NetTables.{IsTable, NetTable};
 
     ghost Value = { NetTable };
 
     ghost view = { λ n. record { conductors = n.conductors; classes = n.classes } };
 
-    ghost invariant = { λ n. (length n.classes.numbers ≡ node_count n.conductors) × (node_count n.conductors < 2 ^ 32) × (length n.classes.firsts ≤ node_count n.conductors) };
+    ghost invariant = { λ n. IsTable (record { conductors = n.conductors; classes = n.classes }) };
 }
 
 /// The nets of the drawing with these layers and this diffusion without poly: the classes of boxes that touch, or that cuts join.

@@ -40,10 +40,11 @@ pub(crate) fn depletion_of(
     let covers = covers_of(alloc, squares, implant)?;
     let mut depletion = Vec::new(alloc);
     for at in 0..boxes.len() {
-        if !is_region(tops[at], covers.under[at], covers.beside[at]) {
+        let under = covers.under[at];
+        if !is_region(tops[at], under, covers.beside[at]) {
             return Err(fault_at(ExtractCode::X1, &boxes[at]));
         }
-        depletion.push(covers.under[at])?;
+        depletion.push(under)?;
     }
     Ok(depletion)
 }
