@@ -128,5 +128,5 @@ module _ (numbered : AreNumbered) (runs : BoxesAreRuns) (by_touches : SquaresLea
             in_r x y h = (full.squares x y).0 (inside_leads numbered runs by_touches Drawn m canonical squares i b f.at b.x1 b.y1 x y at_corner h)
 
             covered : (d : Bool) → IsImplanted Drawn d r → IsCovered implant d b
-            covered true h x y k = (covers x y).1 (h x y (in_r x y k))
-            covered false h x y k = λ over. h x y (in_r x y k) ((covers x y).0 over)
+            covered true h = λ x y k. (covers x y).1 (h x y (in_r x y k))
+            covered false h = λ x y k over. h x y (in_r x y k) ((covers x y).0 over)
