@@ -21,8 +21,8 @@ pairwise_steps : {X : Type 0} (R : X → X → Type 0) → ((x y z : X) → R x 
 pairwise_steps R trans [] h = tt
 pairwise_steps {X} R trans (x ∷ xs) h =
     let tail : Pairwise R xs = pairwise_steps R trans xs (λ k d l.
-        let e : suc k + 1 ≡ suc (k + 1) = omega arith in
-        subst (λ (n : ℕ). R (get_or (x ∷ xs) (suc k) d) (get_or (x ∷ xs) n d)) e (h (suc k) d (omega arith))) in (
+    let e : suc k + 1 ≡ suc (k + 1) = omega arith in
+    subst (λ (n : ℕ). R (get_or (x ∷ xs) (suc k) d) (get_or (x ∷ xs) n d)) e (h (suc k) d (omega arith))) in (
       (λ c i. first_steps R trans x xs c (λ k d l. h k d l) tail i),
       tail,
     )
