@@ -20,6 +20,4 @@ mod polygons;
 #[cfg(test)]
 mod shapes;
 #[cfg(test)]
-mod sweeps;
-#[cfg(test)]
 mod tiles;
