@@ -1,0 +1,11 @@
+pub mod Layers
+pub mod Terminals
+pub mod Conducting
+pub mod Links
+pub mod Corners
+pub mod Graphs
+pub mod NetTables
+pub mod Areas
+pub mod Sides
+pub mod Regions
+pub mod Implants
