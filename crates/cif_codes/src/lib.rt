@@ -4,15 +4,21 @@
 mod boxes;
 mod calls;
 mod checks;
+mod ends;
+mod layers;
 mod openings;
 mod points;
 mod scale;
 mod truths;
 mod verdicts;
+mod wires;
 
 pub use boxes::box_code;
 pub use calls::{MoveChecks, call_code, moves_checks};
 pub use checks::Checks;
+pub use ends::{EndFault, text_end};
+pub use layers::{closing_code, layer_code};
 pub use openings::opening_code;
 pub use points::{Corners, Ends, corners_here, polygon_code};
-pub use scale::Scale;
+pub use scale::{Scale, is_great};
+pub use wires::{WireChecks, wire_checks, wire_code};

@@ -20,7 +20,7 @@ use cif_values::{Next, next_here, point_here};
 use geom::{CifCode, Layer, Point};
 
 /// The most points of a polygon or a wire.
-const MOST_POINTS: usize = 4096;
+pub const MOST_POINTS: usize = 4096;
 
 /// The first and the last of some points.
 #[derive(Clone, Copy, Debug, PartialEq, Eq)]

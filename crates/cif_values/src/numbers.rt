@@ -1,10 +1,10 @@
 // The numbers of commands.
 
-ghost use Rattle.std.specs.Prelude.{◌≡◌, ◌≤◌, ◌<◌, ◌*◌, ◌+◌, ◌^◌, ℕ, true, List, ◌∷◌, length, take, drop};
+ghost use Rattle.std.specs.Prelude.{◌≡◌, ◌≤◌, ◌<◌, ◌*◌, ◌+◌, ◌^◌, ℕ, ℤ, true, List, ◌∷◌, length, take, drop, IfSome, IsNone};
 ghost use Rattle.std.specs.Char.{digit_value};
 ghost use Rattle.std.specs.Str.Parse.{digits_value};
 ghost use Rattle.rx_text.specs.NumberInText.{is_digit};
-ghost use Rattle.geom.specs.CifCommands.{CifPart, is_number_part};
+ghost use Rattle.geom.specs.CifCommands.{CifPart, WritesSigned, is_number_part};
 ghost use Rattle.cif_syntax.specs.Ends.{between};
 ghost use Rattle.cif_values.specs.Parts.{PartsAt, number_in};
 ghost use Rattle.cif_values.specs.Numbers.{StandsFor};
@@ -38,6 +38,33 @@ pub fn number_here(text: &[u8], at: usize, divisor: u64) -> (i64, usize)
     } else {
         let (value, behind) = digits(text, at, divisor);
         (value as i64, skip_blanks(text, behind))
+    }
+}
+
+/// The number that these bytes write, perhaps with a sign, or one that stands for it by the divisor. `None` where they write none.
+pub fn written_number(word: &[u8], divisor: u64) -> Option<i64>
+    requires some { 0 < divisor }
+    requires few { divisor ≤ 400 * 2 ^ 40 }
+    ensures number { IfSome result (λ v. (z : ℤ) × WritesSigned z word.now × StandsFor divisor z v) }
+    ensures none { IsNone result → (z : ℤ) → WritesSigned z word.now → ⊥ }
+{
+    let from = usize::from(signed(word));
+    let (value, behind) = digits(word, from, divisor);
+    if behind == from || behind < word.len() {
+        return None;
+    }
+    if from == 0 {
+        Some(value as i64)
+    } else {
+        Some(-(value as i64))
+    }
+}
+
+/// A `-` stands first.
+fn signed(word: &[u8]) -> bool {
+    match word {
+        [first, ..] => *first == b'-',
+        [] => false,
     }
 }
 

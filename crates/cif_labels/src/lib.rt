@@ -1,0 +1,6 @@
+//! Labels in the user extensions of CIF texts, and the least code that one meets.
+#![tactic(auto)]
+
+mod labels;
+
+pub use labels::label_of;
