@@ -6,3 +6,4 @@ pub mod Least
 -- Definitions that serve private contracts alone:
 pub mod Verdicts
 pub mod Corners
+pub mod Bends

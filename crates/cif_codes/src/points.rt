@@ -63,7 +63,7 @@ pub fn corners_here(text: &[u8], at: usize, scale: Scale) -> Corners
 }
 
 /// A point stands here, where the rest of a shape does.
-fn points_stand(text: &[u8], at: usize) -> bool
+pub fn points_stand(text: &[u8], at: usize) -> bool
     ensures yes { result ≡ true → (stop : ℕ) (points : List Point) → PartsAt text.now at stop (flat_map point_parts points) → points ≢ [] }
     ensures no { result ≡ false → (stop : ℕ) (points : List Point) → PartsAt text.now at stop (flat_map point_parts points) → points ≡ [] }
     ensures begins { result ≡ true → NumberBegins text.now at }

@@ -1,20 +1,25 @@
 // Calls.
 
-ghost use Rattle.std.specs.Prelude.{◌≡◌, ◌×◌, ℕ, ◌≤◌, Some, IfOk, IfErr};
+ghost use Rattle.std.specs.Prelude.{◌≡◌, ℕ, ◌≤◌, pos, List, length, flat_map, Some, IfOk, IfErr};
 ghost use Rattle.geom.specs.Rows.{Among};
-ghost use Rattle.geom.specs.CifDrawings.{CifState, scale_of, symbol_of, drawn_in};
+ghost use Rattle.geom.specs.CifCommands.{CifMove, move_parts};
+ghost use Rattle.geom.specs.CifCodes.{SomeIs, IsTooGreat, part_numbers};
+ghost use Rattle.geom.specs.CifDrawings.{CifState, scale_of, symbol_of, rotation, drawn_in};
 ghost use Rattle.cif_drawing.specs.declared.placement.Step.{Step};
 ghost use Rattle.cif_drawing.specs.Placements.{IsStep, stepped_boxes};
 ghost use Rattle.cif_drawing.specs.Parts.{part_boxes, part_chain, chain_or_none};
 ghost use Rattle.cif_kinds.specs.declared.kinds.CommandKind.TheVariants as kind;
+ghost use Rattle.cif_values.specs.Values.{MoveStands};
 ghost use Rattle.cif_codes.specs.Scales.{ratio, IsScale};
 ghost use Rattle.cif_figures.specs.Figures.{CommandOf, command_of, Leads, symbol_in, IsNumberFor, IsFaultOf};
+ghost use Rattle.cif_figures.specs.Steps.{IsStepOf, AreStepsOf, AreClearMoves, IsDrawnMove};
 
 use crate::fault::FigureFault;
-use cif_codes::{Scale, call_code, moves_checks};
+use cif_codes::{Scale, call_code, moves_checks, moves_stand};
 use cif_drawing::Step;
-use cif_values::{behind_letters, move_here, number_here};
-use geom::CifCode;
+use cif_values::{Move, behind_letters, move_here, number_here};
+use geom::Orient;
+use rx_text::NoMemory;
 use std::alloc::Global;
 
 /// The number of the symbol that is called here, or one above 2^40 where it is above 2^40.
@@ -54,5 +59,98 @@ pub fn steps_called(
         → chain ≡ part_chain (symbol_of s (symbol_in (command_of text.now first end kind.Calls c)))
         → IsFaultOf s (command_of text.now first end kind.Calls c) fault) }
 {
-    Err(FigureFault::NoMemory)
+    let (number, from) = number_here(text, behind_letters(text, first, 1), scale.grid());
+    let moves = moves_checks(text, from, scale);
+    let deep = match chain {
+        Some(calls) => MOST_CALLS < calls,
+        None => false,
+    };
+    if let Some(code) = call_code(scale, number, moves, chain.is_none(), deep) {
+        return Err(FigureFault::Meets(code));
+    }
+    Ok(steps(alloc, text, from, scale)?)
+}
+
+/// The most calls, one within another.
+const MOST_CALLS: u64 = 64;
+
+/// The transformations that stand here up to the semicolon.
+fn steps(alloc: Global, text: &[u8], at: usize, scale: Scale) -> Result<Vec<Step>, NoMemory>
+    requires place { at ≤ length text.now }
+    requires scale { IsScale scale }
+    requires clear { (moves : List CifMove) × AreClearMoves text.now at (ratio scale) moves }
+    ensures steps { IfOk result (λ found. (moves : List CifMove) → AreClearMoves text.now at (ratio scale) moves
+        → AreStepsOf (ratio scale) moves found.items) }
+    ensures near { IfOk result (λ found. (step : Step) → Among found.items step → IsStep step) }
+{
+    let mut steps = Vec::new(alloc);
+    let mut from = at;
+    while moves_stand(text, from) {
+        let (step, next) = move_here(text, from, scale.grid());
+        steps.push(step_of(scale, step))?;
+        from = next;
+    }
+    Ok(steps)
+}
+
+/// The transformation as a turn and a move.
+fn step_of(scale: Scale, written: Move) -> Step
+    requires scale { IsScale scale }
+    requires drawn { IsDrawnMove (ratio scale) written }
+    ensures step { (divisor : ℕ) (move : CifMove) → MoveStands divisor move written → (SomeIs IsTooGreat (flat_map part_numbers (move_parts move)) → ⊥)
+        → IsStepOf (ratio scale) move result }
+    ensures near { IsStep result }
+{
+    match written {
+        Move::Translates(x, y) => Step {
+            turn: STRAIGHT,
+            x: scale.scaled(2 * x),
+            y: scale.scaled(2 * y),
+        },
+        Move::MirrorsX => turned(Orient {
+            neg_x: true,
+            ..STRAIGHT
+        }),
+        Move::MirrorsY => turned(Orient {
+            neg_y: true,
+            ..STRAIGHT
+        }),
+        Move::Rotates(a, b) => turned(rotation(a, b)),
+    }
+}
+
+/// Nothing turned.
+const STRAIGHT: Orient = Orient {
+    swap: false,
+    neg_x: false,
+    neg_y: false,
+};
+
+/// The turn alone.
+fn turned(turn: Orient) -> Step
+    ensures turn { result ≡ record { turn = turn; x = pos 0; y = pos 0 } }
+    ensures near { IsStep result }
+{
+    Step { turn, x: 0, y: 0 }
+}
+
+/// The turn of the direction (1, 0) into that of (a, b).
+fn rotation(a: i64, b: i64) -> Orient
+    ensures { result ≡ rotation a b }
+{
+    if a < 0 {
+        return Orient {
+            swap: false,
+            neg_x: true,
+            neg_y: true,
+        };
+    }
+    if a > 0 {
+        return STRAIGHT;
+    }
+    Orient {
+        swap: true,
+        neg_x: b >= 0,
+        neg_y: b < 0,
+    }
 }

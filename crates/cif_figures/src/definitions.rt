@@ -1,6 +1,6 @@
 // Commands that open and close definitions.
 
-ghost use Rattle.std.specs.Prelude.{◌≡◌, ◌×◌, ℕ, ◌^◌, ◌≤◌, true, List, Some, IsSome, IfOk, IfErr, OnOk};
+ghost use Rattle.std.specs.Prelude.{◌≡◌, ℕ, ◌^◌, ◌≤◌, true, List, Some, IsSome, IfOk, IfErr, OnOk};
 ghost use Rattle.std.specs.Bool.{Decides};
 ghost use Rattle.geom.specs.CifDrawings.{CifState, closed_state};
 ghost use Rattle.geom.specs.CifCodes.{is_defined};

@@ -9,6 +9,7 @@ mod labels;
 mod laws;
 mod layers;
 mod polygons;
+mod rectangles;
 mod wires;
 
 pub use boxes::box_drawn;

@@ -1,14 +1,20 @@
 // Wires.
 
-ghost use Rattle.std.specs.Prelude.{ℕ, IfOk, IfErr};
-ghost use Rattle.geom.specs.CifDrawings.{CifState, drawn_in};
+ghost use Rattle.std.specs.Prelude.{◌≡◌, ℕ, ◌≤◌, List, length, map, IfOk, IfErr};
+ghost use Rattle.geom.specs.declared.point.Point.{Point};
+ghost use Rattle.geom.specs.CifShapes.{outlined_box, wire_outlines};
+ghost use Rattle.geom.specs.CifDrawings.{CifState, scaled, doubled, drawn_in};
 ghost use Rattle.cif_kinds.specs.declared.kinds.CommandKind.TheVariants as kind;
 ghost use Rattle.cif_codes.specs.Scales.{ratio, IsScale};
 ghost use Rattle.cif_figures.specs.Figures.{CommandOf, command_of, Leads, Draws, IsFaultOf};
+ghost use Rattle.cif_figures.specs.Wires.{IsClearWire};
 
 use crate::fault::FigureFault;
-use cif_codes::{Scale, wire_checks, wire_code};
+use crate::rectangles::scaled_box;
+use cif_codes::{Scale, bend_here, points_stand, segment_edges, wire_checks, wire_code};
+use cif_values::{behind_letters, number_here};
 use geom::{Box2, CifCode, Layer};
+use rx_text::NoMemory;
 use std::alloc::Global;
 
 /// The boxes of the wire that stands here, in a definition of this scale, where this layer is set.
@@ -32,5 +38,46 @@ pub fn wire_drawn(
     ensures fault { IfErr result (λ fault. (s : CifState) (end : ℕ) (c : CommandOf text.now first end kind.Wire) → Draws s (ratio scale) layer
         → IsFaultOf s (command_of text.now first end kind.Wire c) fault) }
 {
-    Err(FigureFault::NoMemory)
+    let found = wire_checks(text, first, scale);
+    if let Some(code) = wire_code(layer, found) {
+        return Err(FigureFault::Meets(code));
+    }
+    match layer {
+        Some(layer) => Ok(boxes_of(alloc, text, first, scale, layer)?),
+        None => Err(FigureFault::Meets(CifCode::C3)),
+    }
+}
+
+/// The boxes of the wire that stands here, one for each segment.
+fn boxes_of(
+    alloc: Global,
+    text: &[u8],
+    first: usize,
+    scale: Scale,
+    layer: Layer,
+) -> Result<Vec<Box2>, NoMemory>
+    requires place { first ≤ length text.now }
+    requires scale { IsScale scale }
+    requires clear { (w : ℕ) × (points : List Point) × IsClearWire text.now first (ratio scale) w points }
+    ensures { IfOk result (λ boxes. (w : ℕ) (points : List Point) → IsClearWire text.now first (ratio scale) w points
+        → boxes.items ≡ map (outlined_box layer (scaled (ratio scale))) (wire_outlines w (map doubled points))) }
+{
+    let (width, from) = number_here(text, behind_letters(text, first, 1), scale.grid());
+    let (start, next) = bend_here(text, from, scale);
+    let mut boxes = Vec::new(alloc);
+    if !points_stand(text, next) {
+        let edges = segment_edges(text, width, start, start);
+        boxes.push(scaled_box(scale, layer, edges))?;
+        return Ok(boxes);
+    }
+    let mut last = start;
+    let mut from = next;
+    while points_stand(text, from) {
+        let (bend, next) = bend_here(text, from, scale);
+        let edges = segment_edges(text, width, last, bend);
+        boxes.push(scaled_box(scale, layer, edges))?;
+        last = bend;
+        from = next;
+    }
+    Ok(boxes)
 }

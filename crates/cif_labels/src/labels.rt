@@ -1,14 +1,21 @@
 // The labels of user extensions, and their codes.
 
-ghost use Rattle.std.specs.Prelude.{◌≡◌, ℕ, List, Option, Some, None, IsSome, IfOk, IfErr};
+ghost use Rattle.std.specs.Prelude.{◌≡◌, ◌≤◌, ◌∷◌, ℕ, List, Option, Some, None, IsSome, IsNone, IfSome, IfOk, IfErr, length, drop, codes};
 ghost use Rattle.std.specs.Bool.{Decides};
+ghost use Rattle.rx_text.specs.Role.{NamedRole};
 ghost use Rattle.rx_text.specs.declared.place.Place.{Place};
 ghost use Rattle.geom.specs.CifCommands.{Extension};
+ghost use Rattle.geom.specs.CifLabels.{NamesPad, IsLabel, label_words};
 ghost use Rattle.geom.specs.CifDrawings.{CifState, CommandLeads};
 ghost use Rattle.cif_codes.specs.Least.{IsLeastCode};
 ghost use Rattle.cif_labels.specs.Labelled.{state_with};
+ghost use Rattle.cif_labels.specs.Spots.{IsSpotOf, IsNearSpot};
 
+use crate::pads::{is_word, pad_named};
+use crate::spots::{Spot, is_off, spot_here};
+use crate::words::word_here;
 use geom::{CifCode, Label};
+use rx_text::PadName;
 
 /// The label that the text of a user extension is, where a definition is open or not; none where it names no pad. Takes a time in
 /// proportion to the text.
@@ -23,5 +30,64 @@ pub fn label_of(text: &[u8], open: bool) -> Result<Option<Label>, CifCode>
         → CommandLeads s place (Extension text.now) (state_with s found)) }
     ensures fault { IfErr result (λ code. (s : CifState) → Decides open (IsSome s.opening) → IsLeastCode s (Extension text.now) (Some code)) }
 {
-    Ok(None)
+    match pad_here(text) {
+        Some((pad, behind)) => match placed(pad, spot_here(text, behind), open) {
+            Ok(label) => Ok(Some(label)),
+            Err(code) => Err(code),
+        },
+        None => Ok(None),
+    }
 }
+
+/// The pad that the text names behind `94`, and the place behind its name.
+fn pad_here(text: &[u8]) -> Option<(PadName, usize)>
+    ensures some { IfSome result (λ found. NamesPad text.now found.0 (label_words (drop found.1 text.now))) }
+    ensures within { IfSome result (λ found. found.1 ≤ length text.now) }
+    ensures none { IsNone result → (pad : NamedRole) (behind : List (List ℕ)) → NamesPad text.now pad behind → ⊥ }
+{
+    let (command, next) = word_here(text, 0);
+    if !is_word(command, b"94") {
+        return None;
+    }
+    let (name, behind) = word_here(text, next);
+    match pad_named(name) {
+        Some(pad) => Some((pad, behind)),
+        None => None,
+    }
+}
+
+/// The label of this pad by what stands behind its name, where a definition is open or not; or the least code that it meets.
+fn placed(pad: PadName, spot: Spot, open: bool) -> Result<Label, CifCode>
+    requires { IsNearSpot spot }
+    ensures label { IfOk result (λ label. (text : List ℕ) (behind : List (List ℕ)) (s : CifState) → NamesPad text pad behind → IsSpotOf behind spot
+        → Decides open (IsSome s.opening) → IsLeastCode s (Extension text) None × IsLabel text label) }
+    ensures fault { IfErr result (λ code. (text : List ℕ) (behind : List (List ℕ)) (s : CifState) → NamesPad text pad behind → IsSpotOf behind spot
+        → Decides open (IsSome s.opening) → IsLeastCode s (Extension text) (Some code)) }
+{
+    let point = spot.point();
+    let off = match point {
+        Some(point) => is_off(point),
+        None => false,
+    };
+    if off && spot.named && !open {
+        return Err(CifCode::C7);
+    }
+    if spot.is_great() {
+        return Err(CifCode::C8);
+    }
+    if off || open {
+        return Err(CifCode::C12);
+    }
+    match (point, spot.layer) {
+        (Some(point), Some(layer)) => Ok(Label {
+            pad,
+            layer,
+            x: point.x / UNITS,
+            y: point.y / UNITS,
+        }),
+        _ => Err(CifCode::C12),
+    }
+}
+
+/// The units in one lambda.
+const UNITS: i64 = 200;

@@ -2,5 +2,8 @@
 #![tactic(auto)]
 
 mod labels;
+mod pads;
+mod spots;
+mod words;
 
 pub use labels::label_of;

@@ -4,3 +4,4 @@ pub mod Counting
 pub mod Behind
 pub mod Standing
 pub mod NextParts
+pub mod Ordering

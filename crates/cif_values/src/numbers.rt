@@ -4,7 +4,7 @@ ghost use Rattle.std.specs.Prelude.{◌≡◌, ◌≤◌, ◌<◌, ◌*◌, ◌+
 ghost use Rattle.std.specs.Char.{digit_value};
 ghost use Rattle.std.specs.Str.Parse.{digits_value};
 ghost use Rattle.rx_text.specs.NumberInText.{is_digit};
-ghost use Rattle.geom.specs.CifCommands.{CifPart, WritesSigned, is_number_part};
+ghost use Rattle.geom.specs.CifCommands.{CifPart, WritesNumber, WritesSigned, is_number_part};
 ghost use Rattle.cif_syntax.specs.Ends.{between};
 ghost use Rattle.cif_values.specs.Parts.{PartsAt, number_in};
 ghost use Rattle.cif_values.specs.Numbers.{StandsFor};
@@ -47,25 +47,34 @@ pub fn written_number(word: &[u8], divisor: u64) -> Option<i64>
     requires few { divisor ≤ 400 * 2 ^ 40 }
     ensures number { IfSome result (λ v. (z : ℤ) × WritesSigned z word.now × StandsFor divisor z v) }
     ensures none { IsNone result → (z : ℤ) → WritesSigned z word.now → ⊥ }
+    ensures near { IfSome result (λ v. IsNearNumber v) }
 {
-    let from = usize::from(signed(word));
+    if !word.is_empty() && word[0] == b'-' {
+        match digits_alone(word, 1, divisor) {
+            Some(value) => Some(-(value as i64)),
+            None => None,
+        }
+    } else {
+        match digits_alone(word, 0, divisor) {
+            Some(value) => Some(value as i64),
+            None => None,
+        }
+    }
+}
+
+/// What stands for the number that the bytes from a place on write with no sign.
+fn digits_alone(word: &[u8], from: usize, divisor: u64) -> Option<u64>
+    requires place { from ≤ length word.now }
+    requires some { 0 < divisor }
+    requires few { divisor ≤ 400 * 2 ^ 40 }
+    ensures number { IfSome result (λ v. (n : ℕ) × WritesNumber n (drop from word.now) × Counts divisor n v) }
+    ensures none { IsNone result → (n : ℕ) → WritesNumber n (drop from word.now) → ⊥ }
+{
     let (value, behind) = digits(word, from, divisor);
     if behind == from || behind < word.len() {
         return None;
     }
-    if from == 0 {
-        Some(value as i64)
-    } else {
-        Some(-(value as i64))
-    }
-}
-
-/// A `-` stands first.
-fn signed(word: &[u8]) -> bool {
-    match word {
-        [first, ..] => *first == b'-',
-        [] => false,
-    }
+    Some(value)
 }
 
 /// What stands for the number of the digits here, and the place behind them.
