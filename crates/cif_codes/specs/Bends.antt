@@ -1,5 +1,5 @@
 -- The points of wires, and the edges between them.
-use Rattle.std.specs.Prelude.{◌≡◌, ℕ, ◌^◌, ◌≤◌, ℤ, pos, ◌+ℤ◌, ◌-ℤ◌, ◌*ℤ◌, List, [], ◌∷◌, length, map, flat_map, not, Option, Some, None}
+use Rattle.std.specs.Prelude.{◌≡◌, ℕ, ◌^◌, Bool, ◌≤◌, ℤ, pos, ◌+ℤ◌, ◌-ℤ◌, ◌*ℤ◌, List, [], ◌∷◌, length, map, flat_map, not, Option, Some, None}
 use Rattle.std.specs.List.{list_all}
 use Rattle.std.specs.Int.{int_min, int_max}
 use Rattle.std.specs.Int.RustNames.{unsigned_abs}
@@ -77,9 +77,13 @@ IsLast text divisor [] None = Unit {0}
 IsLast text divisor (p ∷ ps) (Some bend) = BendAt text divisor (last_point p ps) bend
 IsLast text divisor points bend = ⊥
 
+-- Unless a number is too great, the flag tells that a segment lies along no axis.
+abbrev pub IsOblique : ℕ → List Point → Bool → Type 0
+IsOblique w points oblique = (SomeIs IsTooGreat (wire_numbers w points) → ⊥) → oblique ≡ not (list_all is_axis_segment (open_sides points))
+
 -- What was found of the first points of a wire.
 pub record BendsChecked (text : List ℕ) (divisor : ℕ) (scale : CifScale) (w : ℕ) (points : List Point) (bends : Bends) : Type 0 where
   pub checked : Checked scale (wire_numbers w points) (between_points w points) bends.checks
   pub count : bends.count ≡ length points
   pub last : IsLast text divisor points bends.last
-  pub oblique : (SomeIs IsTooGreat (wire_numbers w points) → ⊥) → bends.oblique ≡ not (list_all is_axis_segment (open_sides points))
+  pub oblique : IsOblique w points bends.oblique

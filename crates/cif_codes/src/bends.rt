@@ -1,6 +1,6 @@
 // The points of wires, and the edges between them.
 
-ghost use Rattle.std.specs.Prelude.{◌≡◌, ℕ, ◌+◌, ◌≤◌, ◌<◌, ◌^◌, ◌<ℤ◌, ℤ, pos, List, [], ◌∷◌, ◌++◌, length};
+ghost use Rattle.std.specs.Prelude.{◌≡◌, ℕ, ◌+◌, ◌≤◌, ◌<◌, ◌^◌, ◌<ℤ◌, ℤ, pos, ◌+ℤ◌, ◌-ℤ◌, ◌*ℤ◌, List, [], ◌∷◌, ◌++◌, length};
 ghost use Rattle.std.specs.Bool.{Decides};
 ghost use Rattle.std.specs.Int.RustNames.{unsigned_abs};
 ghost use Rattle.geom.specs.declared.point.Point.{Point};
@@ -85,10 +85,30 @@ fn span(text: &[u8], width: i64, one: Coordinate, other: Coordinate) -> (i64, i6
     ensures high_near { unsigned_abs result.1 ≤ 2 ^ 55 }
 {
     if is_below(text, other, one) {
-        (2 * other.value - width, 2 * one.value + width)
+        (lower(other.value, width), upper(one.value, width))
     } else {
-        (2 * one.value - width, 2 * other.value + width)
+        (lower(one.value, width), upper(other.value, width))
     }
+}
+
+/// Twice the lower edge of a square of this width round a coordinate.
+fn lower(value: i64, width: i64) -> i64
+    requires value { IsNearNumber value }
+    requires width { IsNearNumber width }
+    ensures edge { result ≡ pos 2 *ℤ value -ℤ width }
+    ensures near { unsigned_abs result ≤ 2 ^ 55 }
+{
+    2 * value - width
+}
+
+/// Twice the upper edge.
+fn upper(value: i64, width: i64) -> i64
+    requires value { IsNearNumber value }
+    requires width { IsNearNumber width }
+    ensures edge { result ≡ pos 2 *ℤ value +ℤ width }
+    ensures near { unsigned_abs result ≤ 2 ^ 55 }
+{
+    2 * value + width
 }
 
 /// The first coordinate is below the other one.
@@ -97,7 +117,8 @@ fn is_below(text: &[u8], one: Coordinate, other: Coordinate) -> bool
     requires other { IsNearCoordinate text.now other }
     ensures { (divisor : ℕ) (a b : ℤ) → NumberAt text.now divisor a one → NumberAt text.now divisor b other → Decides result (a <ℤ b) }
 {
-    if is_great(one.value) || is_great(other.value) {
+    let far = either(is_great(one.value), is_great(other.value));
+    if far {
         is_less(text, one.at, other.at)
     } else {
         one.value < other.value

@@ -1,6 +1,7 @@
 // The codes of wires.
 
 ghost use Rattle.std.specs.Prelude.{◌≡◌, ℕ, ◌+◌, ◌≤◌, ◌<◌, ◌^◌, ◌-◌, pos, List, [], ◌∷◌, ◌++◌, length, map, flat_map};
+ghost use Rattle.std.specs.Bool.{Decides};
 ghost use Rattle.geom.specs.declared.point.Point.{Point};
 ghost use Rattle.geom.specs.CifCommands.{DrawsWire, command_parts, point_parts};
 ghost use Rattle.geom.specs.CifShapes.{wire_outlines};
@@ -12,7 +13,7 @@ ghost use Rattle.cif_values.specs.Values.{IsNearNumber};
 ghost use Rattle.cif_codes.specs.Scales.{ratio, grid_of, IsScale};
 ghost use Rattle.cif_codes.specs.Checks.{Checked};
 ghost use Rattle.cif_codes.specs.Wires.{WireChecked};
-ghost use Rattle.cif_codes.specs.Bends.{IsNearBend, IsNearLast, BendAt, BendsChecked, wire_numbers};
+ghost use Rattle.cif_codes.specs.Bends.{IsNearBend, IsNearLast, BendAt, IsLast, IsOblique, BendsChecked, wire_numbers, between_points};
 ghost use Rattle.cif_codes.specs.Least.{IsLeastCode};
 
 use crate::bends::{Bend, bend_here, is_straight, segment_edges};
@@ -57,8 +58,15 @@ pub fn wire_checks(text: &[u8], at: usize, scale: Scale) -> WireChecks
     WireChecks {
         checks: bends.closed(text, scale, width),
         count: bends.count,
-        odd: either(width == 0, bends.oblique),
+        odd: either(is_zero(width), bends.oblique),
     }
+}
+
+/// The width is 0.
+fn is_zero(width: i64) -> bool
+    ensures { (divisor w : ℕ) → StandsFor divisor (pos w) width → Decides result (w ≡ 0) }
+{
+    width == 0
 }
 
 /// What is wrong with the width and with the points that stand here up to the semicolon.
@@ -101,19 +109,34 @@ impl Bends {
     {
         let x = self.checks.with_number(scale, bend.x.value);
         let y = x.with_number(scale, bend.y.value);
-        let (checks, oblique) = match self.last {
-            Some(last) => {
-                let edges = segment_edges(text, width, last, bend);
-                let straight = is_straight(last, bend);
-                (with_edges(scale, y, edges), either(self.oblique, !straight))
-            }
-            None => (y, self.oblique),
-        };
+        let (checks, oblique) = self.joined(text, scale, width, y, bend);
         Bends {
             checks,
             count: self.count + 1,
             last: Some(bend),
             oblique,
+        }
+    }
+
+    /// With the segment to a point more, whose numbers are checked.
+    fn joined(self, text: &[u8], scale: Scale, width: i64, checks: Checks, bend: Bend) -> (Checks, bool)
+        requires scale { IsScale scale }
+        requires width { IsNearNumber width }
+        requires last { IsNearLast text.now self.last }
+        requires near { IsNearBend text.now bend }
+        ensures { (w : ℕ) (points : List Point) (p : Point) → StandsFor (grid_of scale) (pos w) width
+            → IsLast text.now (grid_of scale) points self.last → IsOblique w points self.oblique → BendAt text.now (grid_of scale) p bend
+            → Checked (ratio scale) (wire_numbers w (points ++ p ∷ [])) (between_points w points) checks
+            → Checked (ratio scale) (wire_numbers w (points ++ p ∷ [])) (between_points w (points ++ p ∷ [])) result.0
+            × IsOblique w (points ++ p ∷ []) result.1 }
+    {
+        match self.last {
+            Some(last) => {
+                let edges = segment_edges(text, width, last, bend);
+                let straight = is_straight(last, bend);
+                (with_edges(scale, checks, edges), either(self.oblique, !straight))
+            }
+            None => (checks, self.oblique),
         }
     }
 
@@ -127,11 +150,15 @@ impl Bends {
             → Checked (ratio scale) (wire_numbers w points) (flat_map outline_distances (wire_outlines w (map doubled points))) result }
     {
         match self.last {
-            Some(last) if self.count == 1 => {
-                let edges = segment_edges(text, width, last, last);
-                with_edges(scale, self.checks, edges)
+            Some(last) => {
+                if self.count == 1 {
+                    let edges = segment_edges(text, width, last, last);
+                    with_edges(scale, self.checks, edges)
+                } else {
+                    self.checks
+                }
             }
-            _ => self.checks,
+            None => self.checks,
         }
     }
 }

@@ -1,5 +1,5 @@
 -- Wires that meet no code.
-use Rattle.std.specs.Prelude.{◌≡◌, ℕ, List, flat_map}
+use Rattle.std.specs.Prelude.{◌≡◌, ◌≢◌, ℕ, List, [], flat_map}
 use Rattle.geom.specs.declared.point.Point.{Point}
 use Rattle.geom.specs.CifCommands.{CifScale, DrawsWire, command_parts}
 use Rattle.geom.specs.CifCodes.{SomeIs, IsTooGreat, IsOffGrid, IsFarOff, part_numbers, command_distances}
@@ -10,6 +10,7 @@ use Rattle.cif_codes.specs.Wires.{IsOddWire}
 -- origin.
 pub record IsClearWire (text : List ℕ) (at : ℕ) (scale : CifScale) (w : ℕ) (points : List Point) : Type 0 where
   pub stop : ℕ
+  pub some : points ≢ []
   pub parts : PartsAt text at stop (command_parts (DrawsWire w points))
   pub few : SomeIs IsTooGreat (flat_map part_numbers (command_parts (DrawsWire w points))) → ⊥
   pub on_grid : SomeIs (IsOffGrid scale) (command_distances (DrawsWire w points)) → ⊥

@@ -1,1 +1,4 @@
 pub mod Cuts
+pub mod PadNames
+pub mod Spotting
+pub mod Deciding

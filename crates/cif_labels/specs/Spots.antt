@@ -1,9 +1,10 @@
 -- What stands behind the name of a pad.
-use Rattle.std.specs.Prelude.{◌≡◌, ℕ, true, ℤ, List, [], length, Option, Some, None, if◌then◌else◌}
+use Rattle.std.specs.Prelude.{◌≡◌, ℕ, Bool, false, ℤ, pos, ◌*ℤ◌, List, [], ◌∷◌, Option, Some, None, if◌then◌else◌}
 use Rattle.std.specs.Bool.{Decides}
 use Rattle.geom.specs.declared.layer.Layer.{Layer}
 use Rattle.geom.specs.declared.point.Point.{Point}
 use Rattle.geom.specs.CifCommands.{WritesSigned, IsShortName}
+use Rattle.geom.specs.CifCodes.{SomeIs, IsOffGrid}
 use Rattle.geom.specs.CifLabels.{layer_named, bears_labels, has_bytes}
 use Rattle.cif_values.specs.Numbers.{StandsFor}
 use Rattle.cif_values.specs.Values.{IsNearNumber}
@@ -54,3 +55,10 @@ IsNearWord (Some v) = IsNearNumber v
 
 abbrev pub IsNearSpot : Spot → Type 0
 IsNearSpot spot = IsNearWord spot.x × IsNearWord spot.y
+
+-- The flag tells that a point is off the grid.
+abbrev pub OffTold : Option Point → Bool → Type 0
+OffTold None off = off ≡ false
+OffTold (Some p) off =
+    (x y : ℤ) → StandsFor 400 x p.x → StandsFor 400 y p.y
+    → Decides off (SomeIs (IsOffGrid (record { times = 1; per = 1 })) ((pos 2 *ℤ x) ∷ (pos 2 *ℤ y) ∷ []))

@@ -1,6 +1,6 @@
 // The labels of user extensions, and their codes.
 
-ghost use Rattle.std.specs.Prelude.{◌≡◌, ◌≤◌, ◌∷◌, ℕ, List, Option, Some, None, IsSome, IsNone, IfSome, IfOk, IfErr, length, drop, codes};
+ghost use Rattle.std.specs.Prelude.{◌≡◌, ◌≤◌, ℕ, pos, int_div, List, Option, Some, None, IsSome, IsNone, IfSome, IfOk, IfErr, length, drop};
 ghost use Rattle.std.specs.Bool.{Decides};
 ghost use Rattle.rx_text.specs.Role.{NamedRole};
 ghost use Rattle.rx_text.specs.declared.place.Place.{Place};
@@ -12,7 +12,7 @@ ghost use Rattle.cif_labels.specs.Labelled.{state_with};
 ghost use Rattle.cif_labels.specs.Spots.{IsSpotOf, IsNearSpot};
 
 use crate::pads::{is_word, pad_named};
-use crate::spots::{Spot, is_off, spot_here};
+use crate::spots::{Spot, spot_here};
 use crate::words::word_here;
 use geom::{CifCode, Label};
 use rx_text::PadName;
@@ -65,11 +65,9 @@ fn placed(pad: PadName, spot: Spot, open: bool) -> Result<Label, CifCode>
         → Decides open (IsSome s.opening) → IsLeastCode s (Extension text) (Some code)) }
 {
     let point = spot.point();
-    let off = match point {
-        Some(point) => is_off(point),
-        None => false,
-    };
-    if off && spot.named && !open {
+    let off = spot.is_off();
+    let odd = off && spot.named && !open;
+    if odd {
         return Err(CifCode::C7);
     }
     if spot.is_great() {
@@ -82,8 +80,8 @@ fn placed(pad: PadName, spot: Spot, open: bool) -> Result<Label, CifCode>
         (Some(point), Some(layer)) => Ok(Label {
             pad,
             layer,
-            x: point.x / UNITS,
-            y: point.y / UNITS,
+            x: lambdas(point.x),
+            y: lambdas(point.y),
         }),
         _ => Err(CifCode::C12),
     }
@@ -91,3 +89,10 @@ fn placed(pad: PadName, spot: Spot, open: bool) -> Result<Label, CifCode>
 
 /// The units in one lambda.
 const UNITS: i64 = 200;
+
+/// So many units in lambda, rounded towards 0.
+fn lambdas(units: i64) -> i64
+    ensures { result ≡ int_div units (pos 200) }
+{
+    units / UNITS
+}

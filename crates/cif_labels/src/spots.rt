@@ -1,14 +1,13 @@
 // What stands behind the name of a pad.
 
-ghost use Rattle.std.specs.Prelude.{◌≡◌, ◌≤◌, ◌||◌, ℕ, ℤ, pos, ◌*ℤ◌, List, [], ◌∷◌, length, drop};
+ghost use Rattle.std.specs.Prelude.{◌≡◌, ◌≤◌, ◌||◌, ℕ, ℤ, List, Some, length, drop};
 ghost use Rattle.std.specs.Bool.{Decides};
 ghost use Rattle.rx_text.specs.NumberInText.{is_digit};
 ghost use Rattle.geom.specs.CifCommands.{IsShortName, WritesSigned, is_capital};
-ghost use Rattle.geom.specs.CifCodes.{SomeIs, IsOffGrid, IsTooGreat, HasGreatNumber};
+ghost use Rattle.geom.specs.CifCodes.{IsTooGreat, HasGreatNumber};
 ghost use Rattle.geom.specs.CifLabels.{label_words, bears_labels};
-ghost use Rattle.cif_values.specs.Numbers.{StandsFor};
 ghost use Rattle.cif_values.specs.Values.{IsNearNumber};
-ghost use Rattle.cif_labels.specs.Spots.{Reads, IsSpotOf, IsNearSpot, layer_in, point_of};
+ghost use Rattle.cif_labels.specs.Spots.{Reads, IsSpotOf, IsNearSpot, OffTold, layer_in, point_of};
 
 use crate::words::word_here;
 use cif_codes::{Checks, Scale, is_great};
@@ -96,6 +95,17 @@ impl Spot {
         }
     }
 
+    /// Both are numbers, of which one is off the grid.
+    pub fn is_off(self) -> bool
+        requires { IsNearSpot self }
+        ensures { OffTold (point_of self) result }
+    {
+        match self.point() {
+            Some(point) => is_off(point),
+            None => false,
+        }
+    }
+
     /// One of the numbers is too great.
     pub fn is_great(self) -> bool
         ensures { (behind : List (List ℕ)) → IsSpotOf behind self → Decides result (HasGreatNumber behind) }
@@ -115,11 +125,10 @@ fn is_great_number(word: Option<i64>) -> bool
 }
 
 /// The point is off the grid.
-pub fn is_off(point: Point) -> bool
+fn is_off(point: Point) -> bool
     requires x { IsNearNumber point.x }
     requires y { IsNearNumber point.y }
-    ensures { (x y : ℤ) → StandsFor 400 x point.x → StandsFor 400 y point.y
-        → Decides result (SomeIs (IsOffGrid (record { times = 1; per = 1 })) ((pos 2 *ℤ x) ∷ (pos 2 *ℤ y) ∷ [])) }
+    ensures { OffTold (Some point) result }
 {
     let one = Scale { times: 1, per: 1 };
     let across = Checks::none().with_coordinate(one, point.x);
