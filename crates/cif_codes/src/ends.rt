@@ -21,15 +21,15 @@ pub struct EndFault {
 /// # Errors
 ///
 /// C6 at the `E` where a definition is open. C11 at the first byte behind it that is no blank.
-pub fn text_end(text: &[u8], first: usize, open: bool) -> Result<(), EndFault>
+pub fn text_end(text: &[u8], first: usize, is_open: bool) -> Result<(), EndFault>
     requires { first < length text.now }
-    ensures whole { OnOk result ((s : CifState) (from : ℕ) → Decides open (IsSome s.opening) → IsEndAt text.now from first
+    ensures whole { OnOk result ((s : CifState) (from : ℕ) → Decides is_open (IsSome s.opening) → IsEndAt text.now from first
         → DrawsFrom s (take from text.now) (drop from text.now) s) }
-    ensures fault { IfErr result (λ fault. (s : CifState) (from : ℕ) → Decides open (IsSome s.opening) → IsEndAt text.now from first
+    ensures fault { IfErr result (λ fault. (s : CifState) (from : ℕ) → Decides is_open (IsSome s.opening) → IsEndAt text.now from first
         → CommandFault s (take from text.now) (drop from text.now) fault.code (take fault.at text.now)) }
     ensures within { IfErr result (λ fault. fault.at ≤ length text.now) }
 {
-    if open {
+    if is_open {
         return Err(EndFault {
             code: CifCode::C6,
             at: first,

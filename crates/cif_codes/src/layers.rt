@@ -19,8 +19,8 @@ pub fn layer_code(layer: Option<Layer>) -> Option<CifCode>
 }
 
 /// The least code that the close of a definition meets, where one is open or not.
-pub fn closing_code(open: bool) -> Option<CifCode>
-    ensures { (s : CifState) → Decides open (IsSome s.opening) → IsLeastCode s Closes result }
+pub fn closing_code(is_open: bool) -> Option<CifCode>
+    ensures { (s : CifState) → Decides is_open (IsSome s.opening) → IsLeastCode s Closes result }
 {
-    closing_verdict_code(!open)
+    closing_verdict_code(!is_open)
 }

@@ -72,13 +72,13 @@ pub fn definition_opened(
 /// # Errors
 ///
 /// C6 where none is open.
-pub fn definition_closed(open: bool) -> Result<(), CifCode>
+pub fn definition_closed(is_open: bool) -> Result<(), CifCode>
     ensures closed { OnOk result ((s : CifState) (text : List ℕ) (first end : ℕ) (c : CommandOf text first end kind.Closes)
-        → Decides open (IsSome s.opening) → Leads s (command_of text first end kind.Closes c) (λ place. closed_state s s.opening)) }
+        → Decides is_open (IsSome s.opening) → Leads s (command_of text first end kind.Closes c) (λ place. closed_state s s.opening)) }
     ensures fault { IfErr result (λ code. (s : CifState) (text : List ℕ) (first end : ℕ) (c : CommandOf text first end kind.Closes)
-        → Decides open (IsSome s.opening) → IsLeastCode s (command_of text first end kind.Closes c) (Some code)) }
+        → Decides is_open (IsSome s.opening) → IsLeastCode s (command_of text first end kind.Closes c) (Some code)) }
 {
-    match closing_code(open) {
+    match closing_code(is_open) {
         Some(code) => Err(code),
         None => Ok(()),
     }

@@ -24,14 +24,14 @@ use rx_text::PadName;
 ///
 /// The least code that it meets: C7 where the label's point is off the grid, C8 where a coordinate is too great, C12 where it is
 /// malformed or stands in a definition.
-pub fn label_of(text: &[u8], open: bool) -> Result<Option<Label>, CifCode>
-    ensures clear { IfOk result (λ found. (s : CifState) → Decides open (IsSome s.opening) → IsLeastCode s (Extension text.now) None) }
-    ensures leads { IfOk result (λ found. (s : CifState) (place : Place) → Decides open (IsSome s.opening)
+pub fn label_of(text: &[u8], is_open: bool) -> Result<Option<Label>, CifCode>
+    ensures clear { IfOk result (λ found. (s : CifState) → Decides is_open (IsSome s.opening) → IsLeastCode s (Extension text.now) None) }
+    ensures leads { IfOk result (λ found. (s : CifState) (place : Place) → Decides is_open (IsSome s.opening)
         → CommandLeads s place (Extension text.now) (state_with s found)) }
-    ensures fault { IfErr result (λ code. (s : CifState) → Decides open (IsSome s.opening) → IsLeastCode s (Extension text.now) (Some code)) }
+    ensures fault { IfErr result (λ code. (s : CifState) → Decides is_open (IsSome s.opening) → IsLeastCode s (Extension text.now) (Some code)) }
 {
     match pad_here(text) {
-        Some((pad, behind)) => match placed(pad, spot_here(text, behind), open) {
+        Some((pad, behind)) => match placed(pad, spot_here(text, behind), is_open) {
             Ok(label) => Ok(Some(label)),
             Err(code) => Err(code),
         },
@@ -57,23 +57,23 @@ fn pad_here(text: &[u8]) -> Option<(PadName, usize)>
 }
 
 /// The label of this pad by what stands behind its name, where a definition is open or not; or the least code that it meets.
-fn placed(pad: PadName, spot: Spot, open: bool) -> Result<Label, CifCode>
+fn placed(pad: PadName, spot: Spot, is_open: bool) -> Result<Label, CifCode>
     requires { IsNearSpot spot }
     ensures label { IfOk result (λ label. (text : List ℕ) (behind : List (List ℕ)) (s : CifState) → NamesPad text pad behind → IsSpotOf behind spot
-        → Decides open (IsSome s.opening) → IsLeastCode s (Extension text) None × IsLabel text label) }
+        → Decides is_open (IsSome s.opening) → IsLeastCode s (Extension text) None × IsLabel text label) }
     ensures fault { IfErr result (λ code. (text : List ℕ) (behind : List (List ℕ)) (s : CifState) → NamesPad text pad behind → IsSpotOf behind spot
-        → Decides open (IsSome s.opening) → IsLeastCode s (Extension text) (Some code)) }
+        → Decides is_open (IsSome s.opening) → IsLeastCode s (Extension text) (Some code)) }
 {
     let point = spot.point();
     let off = spot.is_off();
-    let odd = off && spot.named && !open;
+    let odd = off && spot.named && !is_open;
     if odd {
         return Err(CifCode::C7);
     }
     if spot.is_great() {
         return Err(CifCode::C8);
     }
-    if off || open {
+    if off || is_open {
         return Err(CifCode::C12);
     }
     match (point, spot.layer) {

@@ -5,3 +5,4 @@ pub mod Behind
 pub mod Standing
 pub mod NextParts
 pub mod Ordering
+pub mod Written

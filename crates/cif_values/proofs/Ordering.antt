@@ -1,5 +1,5 @@
 -- The order of numbers, digit by digit.
-use Rattle.std.proofs.Common.{◌≡◌, ◌⊎◌, inl, inr, ℕ, zero, suc, ◌+◌, ◌*◌, ◌-◌, ◌≤◌, ◌<◌, nat_lt, Bool, true, false, cond, ℤ, pos, neg_ℤ, ◌<ℤ◌, List, [], ◌∷◌, length, take, drop, get_or, refl, sym, ◌∙◌, ap, subst, arith}
+use Rattle.std.proofs.Common.{◌≡◌, ◌⊎◌, inl, inr, ℕ, zero, suc, ◌+◌, ◌*◌, ◌-◌, ◌≤◌, ◌<◌, nat_lt, Bool, true, false, cond, ◌&&◌, ℤ, pos, neg_ℤ, ◌<ℤ◌, List, [], ◌∷◌, length, take, drop, get_or, refl, sym, ◌∙◌, ap, subst, arith}
 use Rattle.std.specs.declared.cmp.Ordering.{Ordering}
 use Rattle.std.specs.declared.cmp.Ordering.TheVariants.{Less, Equal, Greater}
 use Rattle.std.specs.Ordering.{is_lt}
@@ -29,7 +29,7 @@ use Rattle.cif_values.proofs.Standing.{NumberAt, PlainAt, MinusAt, number_at}
 pub digits_push : (text : List ℕ) (from to : ℕ) → from ≤ to → to < length text → list_all is_digit (between text from to) ≡ true → is_digit (get_or text to 0) ≡ true
     → list_all is_digit (between text from (to + 1)) ≡ true
 digits_push text from to o w h d =
-    ap (list_all is_digit) (between_push text from to o w) ∙ all_join is_digit (between text from to) (get_or text to 0 ∷ []) h (ap (λ (v : Bool). cond v true false) d)
+    ap (list_all is_digit) (between_push text from to o w) ∙ all_join is_digit (between text from to) (get_or text to 0 ∷ []) h (ap (λ (v : Bool). v && true) d)
 
 pub no_digits : (text : List ℕ) (from : ℕ) → list_all is_digit (between text from from) ≡ true
 no_digits text from = ap (list_all is_digit) (nothing_between text from)
@@ -81,6 +81,13 @@ value_end text run count h l =
     let e : run.from + (run.to - run.from) ≡ run.to = omega (arith, o) in
     value_at text run count count (run.to - run.from) (omega (arith, l)) ∙ ap (λ (n : ℕ). digits_value 10 (between text run.from n)) e
 
+no_less : (a b : ℕ) → b ≤ a → nat_lt a b ≡ false
+no_less a b g = by (nat_lt a b) refl
+  where
+    by : (t : Bool) → nat_lt a b ≡ t → t ≡ false
+    by true e = let z : a < b = ltb-true a b e in absurd (omega (arith, z, g))
+    by false e = refl
+
 pub value_more : (text : List ℕ) (run : Digits) (i count : ℕ) → IsDigitRun text run → run.to - run.from ≤ count → i < count
     → value_to text run (i + 1) count ≡ value_to text run i count * 10 + digit_of text run i count
 value_more text run i count h l w = elim (cases_lt i (count - (run.to - run.from))) [ inl a ↦ before a | inr b ↦ within b ]
@@ -109,13 +116,6 @@ value_more text run i count h l w = elim (cases_lt i (count - (run.to - run.from
         ap (λ (v : Bool). cond v 0 (get_or text (run.from + k) 0 - 48)) (no_less i (count - (run.to - run.from)) b) in
         let v = value_in text run k h c in
         omega (arith, p, d, v)
-
-    no_less : (a b : ℕ) → b ≤ a → nat_lt a b ≡ false
-    no_less a b g = by (nat_lt a b) refl
-      where
-        by : (t : Bool) → nat_lt a b ≡ t → t ≡ false
-        by true e = let z : a < b = ltb-true a b e in omega (arith, z, g)
-        by false e = refl
 
 pub digit_small : (text : List ℕ) (run : Digits) (k : ℕ) → IsDigitRun text run → k < run.to - run.from → get_or text (run.from + k) 0 - 48 < 10
 digit_small text run k h l = let d = digit_bounds (get_or text (run.from + k) 0) (digit_in text run k h l) in omega (arith, d.1)
@@ -176,24 +176,58 @@ minus_digits text at stop p ps run k h w m e f = by (number_at text at stop p ps
 
 pub plain_digits : (text : List ℕ) (at stop : ℕ) (p : CifPart) (ps : List CifPart) (run : Digits) → is_number_part p ≡ true → PartsAt text at stop (p ∷ ps)
     → (at < length text → get_or text at 0 ≡ 45 → ⊥) → run.from ≡ at → run.to ≡ behind_digits text at → SignedDigits text run false (number_in p)
-plain_digits text at stop p ps run k h no e f = by (number_at text at stop p ps k h)
+plain_digits text at stop p ps run k h none e f = by (number_at text at stop p ps k h)
   where
     by : NumberAt text at stop ps (number_in p) → SignedDigits text run false (number_in p)
     by (inl d) = record { n = d.0; are = moved_digits text run at d.0 e f d.2.value; is = d.1 }
-    by (inr d) = absurd (no d.2.within d.2.minus)
+    by (inr d) = absurd (none d.2.within d.2.minus)
 
-pub plain_less : (m n : ℕ) (t : Bool) (a b : ℤ) → a ≡ pos m → b ≡ pos n → Decides t (m < n) → Decides t (a <ℤ b)
+plain_less : (m n : ℕ) (t : Bool) (a b : ℤ) → a ≡ pos m → b ≡ pos n → Decides t (m < n) → Decides t (a <ℤ b)
 plain_less m n t a b e f d = (λ g. (let l = d.0 g in omega (arith, ints, l, e, f)), λ l. d.1 (omega (arith, ints, l, e, f)))
 
-pub minus_less : (m n : ℕ) (t : Bool) (a b : ℤ) → a ≡ neg_ℤ (pos m) → b ≡ neg_ℤ (pos n) → Decides t (n < m) → Decides t (a <ℤ b)
+minus_less : (m n : ℕ) (t : Bool) (a b : ℤ) → a ≡ neg_ℤ (pos m) → b ≡ neg_ℤ (pos n) → Decides t (n < m) → Decides t (a <ℤ b)
 minus_less m n t a b e f d = (λ g. (let l = d.0 g in omega (arith, ints, l, e, f)), λ l. d.1 (omega (arith, ints, l, e, f)))
 
-pub mixed_less : (m n : ℕ) (t u : Bool) (a b : ℤ) → a ≡ neg_ℤ (pos m) → b ≡ pos n → Decides t (0 < m) → Decides u (0 < n) → Decides (cond t true u) (a <ℤ b)
-mixed_less m n true u a b e f d g = (λ _. (let l = d.0 refl in omega (arith, ints, l, e, f)), λ l. refl)
-mixed_less m n false u a b e f d g = (
-  λ h. (let l = g.0 h in omega (arith, ints, l, e, f)),
-  λ l. (elim (cases_lt 0 n) [ inl p ↦ g.1 p | inr q ↦ absurd (let z = d.1 (let y : 0 < m = omega (arith, ints, l, e, f, q) in y) in let w : false ≡ true = z in cc) ]),
-)
-
-pub never_less : (m n : ℕ) (a b : ℤ) → a ≡ pos m → b ≡ neg_ℤ (pos n) → Decides false (a <ℤ b)
+never_less : (m n : ℕ) (a b : ℤ) → a ≡ pos m → b ≡ neg_ℤ (pos n) → Decides false (a <ℤ b)
 never_less m n a b e f = (λ g. absurd cc, λ l. absurd (omega (arith, ints, l, e, f)))
+
+-- the number behind a sign that is known
+sign_is : (t minus : Bool) (n : ℕ) (z : ℤ) → t ≡ minus → z ≡ cond t (neg_ℤ (pos n)) (pos n) → z ≡ cond minus (neg_ℤ (pos n)) (pos n)
+sign_is t minus n z e h = h ∙ ap (λ (v : Bool). cond v (neg_ℤ (pos n)) (pos n)) e
+
+pub plain_order : (text : List ℕ) (one two : Digits) (t u r : Bool) (z w : ℤ) (order : Ordering) → (a : SignedDigits text one t z) → (b : SignedDigits text two u w)
+    → t ≡ false → u ≡ false → r ≡ is_lt order → IsOrder order a.n b.n → Decides r (z <ℤ w)
+plain_order text one two t u r z w order a b e f g o =
+    let P : Bool → Type 0 = λ v. Decides v (a.n < b.n) in
+    plain_less a.n b.n r z w (sign_is t false a.n z e a.is) (sign_is u false b.n w f b.is) (subst P (sym g) (less_decides a.n b.n order o))
+
+pub minus_order : (text : List ℕ) (one two : Digits) (t u r : Bool) (z w : ℤ) (order : Ordering) → (a : SignedDigits text one t z) → (b : SignedDigits text two u w)
+    → t ≡ true → u ≡ true → r ≡ is_lt order → IsOrder order b.n a.n → Decides r (z <ℤ w)
+minus_order text one two t u r z w order a b e f g o =
+    let P : Bool → Type 0 = λ v. Decides v (b.n < a.n) in
+    minus_less a.n b.n r z w (sign_is t true a.n z e a.is) (sign_is u true b.n w f b.is) (subst P (sym g) (less_decides b.n a.n order o))
+
+pub mixed_first : (text : List ℕ) (one two : Digits) (t u r : Bool) (z w : ℤ) → (a : SignedDigits text one t z) → (b : SignedDigits text two u w) → t ≡ true → u ≡ false
+    → r ≡ true → Decides r (0 < a.n) → Decides r (z <ℤ w)
+mixed_first text one two t u r z w a b e f g d =
+    let p = sign_is t true a.n z e a.is in
+    let q = sign_is u false b.n w f b.is in
+    let l = d.0 g in
+    (λ _. omega (arith, ints, l, p, q), λ _. g)
+
+pub mixed_second : (text : List ℕ) (one two : Digits) (t u r v : Bool) (z w : ℤ) → (a : SignedDigits text one t z) → (b : SignedDigits text two u w) → t ≡ true → u ≡ false
+    → r ≡ false → Decides r (0 < a.n) → Decides v (0 < b.n) → Decides v (z <ℤ w)
+mixed_second text one two t u r v z w a b e f g d k =
+    let p = sign_is t true a.n z e a.is in
+    let q = sign_is u false b.n w f b.is in
+    (
+      λ h. (let l = k.0 h in omega (arith, ints, l, p, q)),
+      λ h. elim (cases_lt 0 a.n) [
+        | inl l ↦ absurd (let y : false ≡ true = sym g ∙ d.1 l in cc)
+        | inr l ↦ k.1 (omega (arith, ints, h, p, q, l))
+      ],
+    )
+
+pub mixed_never : (text : List ℕ) (one two : Digits) (t u : Bool) (z w : ℤ) → (a : SignedDigits text one t z) → (b : SignedDigits text two u w) → t ≡ false → u ≡ true
+    → Decides false (z <ℤ w)
+mixed_never text one two t u z w a b e f = never_less a.n b.n z w (sign_is t false a.n z e a.is) (sign_is u true b.n w f b.is)

@@ -71,7 +71,10 @@ fn digits_alone(word: &[u8], from: usize, divisor: u64) -> Option<u64>
     ensures none { IsNone result → (n : ℕ) → WritesNumber n (drop from word.now) → ⊥ }
 {
     let (value, behind) = digits(word, from, divisor);
-    if behind == from || behind < word.len() {
+    if behind == from {
+        return None;
+    }
+    if behind < word.len() {
         return None;
     }
     Some(value)

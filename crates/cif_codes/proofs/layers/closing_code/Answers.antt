@@ -9,4 +9,4 @@ use Rattle.cif_codes.proofs.layers.closing_code.Goals as goal
 pub returns : goal.returns
 returns c = λ s o.
     let Q : Option CifCode → Type 0 = λ v. IsLeastCode s Closes v in
-    subst Q (sym c.closing_verdict_code.ensures) (closing_least s c.args.open o)
+    subst Q (sym c.closing_verdict_code.ensures) (closing_least s c.args.is_open o)
