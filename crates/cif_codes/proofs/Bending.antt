@@ -23,7 +23,7 @@ use Rattle.cif_codes.specs.Checks.{Checked}
 use Rattle.cif_codes.specs.Corners.{open_sides, last_point}
 use Rattle.cif_codes.specs.Bends.{BendAt, SpanStands, EdgesStand, wire_numbers, between_points, IsLast, IsOblique, BendsChecked}
 use Rattle.cif_codes.specs.Wires.{IsOddWire}
-use Rattle.cif_codes.proofs.Checking.{near_same, word_same}
+use Rattle.cif_codes.proofs.Checking.{near_same, word_same, great_word}
 use Rattle.cif_codes.proofs.MoveCodes.{flat_map_append, flat_map_push}
 use Rattle.cif_codes.proofs.BoxCodes.{lower_alike, upper_alike, same_point}
 use Rattle.cif_codes.proofs.PointCodes.{point_numbers, segments_push, all_push, not_and, PointNext}
@@ -69,6 +69,18 @@ upper_pair m c w u v edge e h k s t =
       subst P (sym f) (upper_alike m c w u v s.alike t.alike),
       λ a b. f ∙ (ap (λ (z : ℤ). pos 2 *ℤ z +ℤ v) (s.exact b) ∙ ap (λ (z : ℤ). pos 2 *ℤ c +ℤ z) (t.exact a)),
     )
+
+-- the same in machine words
+pub edge_word : (m : ℕ) (w c z edge : ℤ) → unsigned_abs edge ≤ 2 ^ 55 → StandsEdge m w c z edge → StandsEdge m w c z (to_z w64 (of_z w64 edge))
+edge_word m w c z edge h s =
+    let P : ℤ → Type 0 = λ n. AreAlike m z n in (subst P (sym (word_same edge h)) s.0, λ a b. word_same edge h ∙ s.1 a b)
+
+pub span_word : (m w : ℕ) (a b low high : ℤ) → unsigned_abs low ≤ 2 ^ 55 → unsigned_abs high ≤ 2 ^ 55 → SpanStands m w a b low high
+    → SpanStands m w a b (to_z w64 (of_z w64 low)) (to_z w64 (of_z w64 high))
+span_word m w a b low high h k s =
+    let P : ℤ → Type 0 = λ n. SpanStands m w a b n high in
+    let Q : ℤ → Type 0 = λ n. SpanStands m w a b (to_z w64 (of_z w64 low)) n in
+    subst Q (sym (word_same high k)) (subst P (sym (word_same low h)) s)
 
 -- by which of two coordinates is the lower one
 pub span_swapped : (m w : ℕ) (a b low high : ℤ) → b <ℤ a → StandsEdge m (pos w) b (pos 2 *ℤ b -ℤ pos w) low → StandsEdge m (pos w) a (pos 2 *ℤ a +ℤ pos w) high
@@ -340,11 +352,11 @@ not_not : (t : Bool) → not (not t) ≡ t
 not_not true = refl
 not_not false = refl
 
-pub wire_odd : (w : ℕ) (points : List Point) (zero oblique : Bool) → Decides zero (w ≡ 0) → oblique ≡ not (list_all is_axis_segment (open_sides points))
-    → Decides (zero || oblique) (IsOddWire w points)
-wire_odd w points zero oblique d o =
-    let P : Bool → Type 0 = λ v. Decides (zero || oblique) ((w ≡ 0) ⊎ (v ≡ false)) in
-    subst P (ap not o ∙ (not_not (list_all is_axis_segment (open_sides points)) ∙ sym (straight_same points))) (odd_decides zero oblique (w ≡ 0) d)
+pub wire_odd : (w : ℕ) (points : List Point) (narrow oblique : Bool) → Decides narrow (w ≡ 0) → oblique ≡ not (list_all is_axis_segment (open_sides points))
+    → Decides (narrow || oblique) (IsOddWire w points)
+wire_odd w points narrow oblique d o =
+    let P : Bool → Type 0 = λ v. Decides (narrow || oblique) ((w ≡ 0) ⊎ (v ≡ false)) in
+    subst P (ap not o ∙ (not_not (list_all is_axis_segment (open_sides points)) ∙ sym (straight_same points))) (odd_decides narrow oblique (w ≡ 0) d)
 
 -- ---- edges in machine words
 
@@ -353,3 +365,22 @@ alike_word m z v h a = let P : ℤ → Type 0 = λ n. AreAlike m z n in subst P 
 
 pub same_word : (z v : ℤ) → unsigned_abs v ≤ 2 ^ 55 → v ≡ z → to_z w64 (of_z w64 v) ≡ z
 same_word z v h e = word_same v h ∙ e
+
+-- ---- order
+
+pub either_false : (a b : Bool) → (a || b) ≡ false → (a ≡ false) × (b ≡ false)
+either_false true b e = absurd cc
+either_false false b e = (refl, e)
+
+-- a number is not too great where what stands for it is not
+pub no_great : (m : ℕ) (z v : ℤ) (t : Bool) → StandsFor m z v → Decides t (IsTooGreat (to_z w64 (of_z w64 v))) → t ≡ false → IsTooGreat z → ⊥
+no_great m z v t s d e g = let y : true ≡ false = sym ((great_word m z v t s d).1 (s.great g)) ∙ e in cc
+
+pub near_lt : (m : ℕ) (a b u v : ℤ) → unsigned_abs u ≤ 2 ^ 52 → unsigned_abs v ≤ 2 ^ 52 → StandsFor m a u → StandsFor m b v → (IsTooGreat a → ⊥) → (IsTooGreat b → ⊥)
+    → Decides (int_lt (to_z w64 (of_z w64 u)) (to_z w64 (of_z w64 v))) (a <ℤ b)
+near_lt m a b u v h k s t g i =
+    let e : to_z w64 (of_z w64 u) ≡ a = near_same u h ∙ s.exact g in
+    let f : to_z w64 (of_z w64 v) ≡ b = near_same v k ∙ t.exact i in
+    let P : ℤ → Type 0 = λ n. Decides (int_lt n (to_z w64 (of_z w64 v))) (a <ℤ b) in
+    let Q : ℤ → Type 0 = λ n. Decides (int_lt a n) (a <ℤ b) in
+    subst P (sym e) (subst Q (sym f) (λ d. grind (arith, ints), λ l. lt_true a b l))

@@ -51,29 +51,29 @@ all_first p (x ∷ xs) =
       | inr bad ↦ rw bad refl
     ]
 
-outside : (open t : Bool) → Decides open (t ≡ true) → open ≡ false → t ≡ false
-outside open true d e = let z : true ≡ false = sym (d.1 refl) ∙ e in absurd cc
-outside open false d e = refl
+outside : (opened t : Bool) → Decides opened (t ≡ true) → opened ≡ false → t ≡ false
+outside opened true d e = let z : true ≡ false = sym (d.1 refl) ∙ e in absurd cc
+outside opened false d e = refl
 
 -- all is blank behind it
-pub end_whole : (s : CifState) (text : List ℕ) (from first behind : ℕ) (open : Bool) → IsEndAt text from first → behind ≡ behind_blanks text (first + 1)
-    → behind ≡ length text → Decides open (IsSome s.opening) → open ≡ false → DrawsFrom s (take from text) (drop from text) s
-end_whole s text from first behind open h b e d c =
+pub end_whole : (s : CifState) (text : List ℕ) (from first behind : ℕ) (opened : Bool) → IsEndAt text from first → behind ≡ behind_blanks text (first + 1)
+    → behind ≡ length text → Decides opened (IsSome s.opening) → opened ≡ false → DrawsFrom s (take from text) (drop from text) s
+end_whole s text from first behind opened h b e d c =
     let xs : List ℕ = drop (first + 1) text in
     let k : length xs ≡ prefix_len is_cif_blank xs =
     (let w = h.within in let l = length-drop (first + 1) text in omega (arith, b, e, w, l)) in
     let all : take (prefix_len is_cif_blank xs) xs ≡ xs = ap (λ (n : ℕ). take n xs) (sym k) ∙ whole xs in
     DrawsFrom.end s (take from text) (drop from text) (between text from first) xs h.is h.blanks (ap (list_all is_cif_blank) (sym all) ∙ all_first is_cif_blank xs)
-    (outside open (is_some s.opening) d c)
+    (outside opened (is_some s.opening) d c)
   where
     whole : (xs : List ℕ) → take (length xs) xs ≡ xs
     whole [] = refl
     whole (x ∷ xs) = ap (λ (l : List ℕ). x ∷ l) (whole xs)
 
 -- some byte is not
-pub end_followed : (s : CifState) (text : List ℕ) (from first behind : ℕ) (open : Bool) → IsEndAt text from first → behind ≡ behind_blanks text (first + 1)
-    → behind < length text → Decides open (IsSome s.opening) → open ≡ false → CommandFault s (take from text) (drop from text) C11 (take behind text)
-end_followed s text from first behind open h b l d c =
+pub end_followed : (s : CifState) (text : List ℕ) (from first behind : ℕ) (opened : Bool) → IsEndAt text from first → behind ≡ behind_blanks text (first + 1)
+    → behind < length text → Decides opened (IsSome s.opening) → opened ≡ false → CommandFault s (take from text) (drop from text) C11 (take behind text)
+end_followed s text from first behind opened h b l d c =
     let xs : List ℕ = drop (first + 1) text in
     let k : ℕ = prefix_len is_cif_blank xs in
     let w = h.within in
@@ -92,7 +92,7 @@ end_followed s text from first behind open h b l d c =
     ∙ (sym (take-add (first + 1) k text) ∙ ap (λ (i : ℕ). take i text) (sym b)))) in
     subst P (sym (append_assoc (take from text) (between text from first) (codes "E" ++ take k xs)) ∙ place)
     (CommandFault.behind_end (between text from first) (take k xs) (get_or xs k 0) (drop (k + 1) xs)
-    (h.is ∙ ap (λ (t : List ℕ). between text from first ++ (codes "E" ++ t)) split) h.blanks (outside open (is_some s.opening) d c)
+    (h.is ∙ ap (λ (t : List ℕ). between text from first ++ (codes "E" ++ t)) split) h.blanks (outside opened (is_some s.opening) d c)
     (all_first is_cif_blank xs) (prefix_len_stops is_cif_blank xs 0 inside))
   where
     first_is : from ≤ first → take 1 (drop first text) ≡ codes "E"

@@ -19,16 +19,16 @@ layer_least s name bare d = first_is_least s (SetsLayer name) (layer_verdict bar
     by C8 = (λ e. absurd cc, λ h. elim h [ inl k ↦ absurd k | inr k ↦ absurd k ])
     by code = (λ e. absurd cc, λ m. absurd m)
 
-outside : (open t : Bool) → Decides open (t ≡ true) → Decides (not open) (t ≡ false)
+outside : (opened t : Bool) → Decides opened (t ≡ true) → Decides (not opened) (t ≡ false)
 outside true true d = (λ e. absurd cc, λ e. absurd cc)
 outside true false d = absurd (let e : false ≡ true = d.0 refl in cc)
 outside false true d = absurd (let e : false ≡ true = d.1 refl in cc)
 outside false false d = (λ e. refl, λ e. refl)
 
-pub closing_least : (s : CifState) (open : Bool) → Decides open (IsSome s.opening) → IsLeastCode s Closes (first_code (closing_verdict (not open)))
-closing_least s open d = first_is_least s Closes (closing_verdict (not open)) by
+pub closing_least : (s : CifState) (opened : Bool) → Decides opened (IsSome s.opening) → IsLeastCode s Closes (first_code (closing_verdict (not opened)))
+closing_least s opened d = first_is_least s Closes (closing_verdict (not opened)) by
   where
-    by : (code : CifCode) → Decides (closing_verdict (not open) code) (MeetsCode code s Closes)
-    by C6 = outside open (is_some s.opening) d
+    by : (code : CifCode) → Decides (closing_verdict (not opened) code) (MeetsCode code s Closes)
+    by C6 = outside opened (is_some s.opening) d
     by C8 = (λ e. absurd cc, λ h. elim h [ inl k ↦ absurd k | inr k ↦ absurd k ])
     by code = (λ e. absurd cc, λ m. absurd m)

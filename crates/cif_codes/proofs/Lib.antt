@@ -11,3 +11,4 @@ pub mod LayerCodes
 pub mod Ending
 pub mod Bending
 pub mod WireCodes
+pub mod Multiples

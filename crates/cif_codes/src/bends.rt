@@ -14,6 +14,7 @@ ghost use Rattle.cif_codes.specs.Scales.{grid_of, IsScale};
 ghost use Rattle.cif_codes.specs.Bends.{IsNearCoordinate, IsNearBend, NumberAt, BendAt, SpanStands, EdgesStand, AreNearEdges};
 
 use crate::edges::Edges;
+use crate::points::shares;
 use crate::scale::{Scale, is_great};
 use crate::truths::either;
 use cif_values::{is_less, number_here};
@@ -129,7 +130,7 @@ fn is_below(text: &[u8], one: Coordinate, other: Coordinate) -> bool
 pub fn is_straight(start: Bend, stop: Bend) -> bool
     ensures { result ≡ is_axis_segment (record { start = record { x = start.x.value; y = start.y.value }; stop = record { x = stop.x.value; y = stop.y.value } }) }
 {
-    let across = stop.x.value == start.x.value;
-    let upward = stop.y.value == start.y.value;
+    let across = shares(start.x.value, stop.x.value);
+    let upward = shares(start.y.value, stop.y.value);
     either(across, upward)
 }

@@ -146,7 +146,7 @@ fn is_axis_side(start: Point, stop: Point) -> bool
 }
 
 /// The coordinates are the same.
-fn shares(one: i64, other: i64) -> bool
+pub fn shares(one: i64, other: i64) -> bool
     ensures { result ≡ is_zero (other -ℤ one) }
 {
     one == other

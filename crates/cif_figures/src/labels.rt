@@ -8,6 +8,7 @@ ghost use Rattle.cif_codes.specs.Least.{IsLeastCode};
 ghost use Rattle.cif_labels.specs.Labelled.{state_with};
 ghost use Rattle.cif_figures.specs.Figures.{CommandOf, command_of, Leads};
 
+use cif_kinds::extensions_stand;
 use cif_labels::label_of;
 use geom::{CifCode, Label};
 
@@ -25,5 +26,6 @@ pub fn label_put(text: &[u8], first: usize, end: usize, is_open: bool) -> Result
     ensures fault { IfErr result (λ code. (s : CifState) (c : CommandOf text.now first end kind.Extension) → Decides is_open (IsSome s.opening)
         → IsLeastCode s (command_of text.now first end kind.Extension c) (Some code)) }
 {
+    extensions_stand();
     label_of(&text[first..end - 1], is_open)
 }

@@ -22,7 +22,11 @@ pub fn layer_set(text: &[u8], first: usize) -> Result<Layer, CifCode>
     ensures fault { IfErr result (λ code. (s : CifState) (end : ℕ) (c : CommandOf text.now first end kind.Layer)
         → IsLeastCode s (command_of text.now first end kind.Layer c) (Some code)) }
 {
-    match layer_here(text, first) {
+    let layer = layer_here(text, first);
+    if let Some(code) = layer_code(layer) {
+        return Err(code);
+    }
+    match layer {
         Some(layer) => Ok(layer),
         None => Err(CifCode::C2),
     }

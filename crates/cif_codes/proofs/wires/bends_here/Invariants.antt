@@ -9,8 +9,8 @@ use Rattle.cif_codes.specs.Bends.{IsNearLast}
 use Rattle.cif_codes.proofs.Bending.{BendsUpTo}
 use Rattle.cif_codes.proofs.wires.bends_here.Given as goal
 
-abbrev pub invariant-loop-text : goal.invariant-loop-text
-invariant-loop-text l = record {
+abbrev pub invariant-loop-scale : goal.invariant-loop-scale
+invariant-loop-scale l = record {
   place : l.from ≤ length l.text;
   few : l.bends.count ≤ l.from;
   near : IsNearLast l.text l.bends.last;
@@ -18,5 +18,5 @@ invariant-loop-text l = record {
       → BendsUpTo l.text (grid_of l.fn.scale) (ratio l.fn.scale) w stop points l.from l.bends;
 }
 
-abbrev pub decreases-loop-text : goal.decreases-loop-text
-decreases-loop-text l = length l.text - l.from
+abbrev pub decreases-loop-scale : goal.decreases-loop-scale
+decreases-loop-scale l = length l.text - l.from
