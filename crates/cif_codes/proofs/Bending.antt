@@ -384,3 +384,6 @@ near_lt m a b u v h k s t g i =
     let P : ℤ → Type 0 = λ n. Decides (int_lt n (to_z w64 (of_z w64 v))) (a <ℤ b) in
     let Q : ℤ → Type 0 = λ n. Decides (int_lt a n) (a <ℤ b) in
     subst P (sym e) (subst Q (sym f) (λ d. grind (arith, ints), λ l. lt_true a b l))
+
+pub zero_word : (u v : ℤ) → unsigned_abs u ≤ 2 ^ 52 → unsigned_abs v ≤ 2 ^ 52 → is_zero (to_z w64 (of_z w64 u) -ℤ to_z w64 (of_z w64 v)) ≡ is_zero (u -ℤ v)
+zero_word u v h k = ap (λ (z : ℤ). is_zero (z -ℤ to_z w64 (of_z w64 v))) (near_same u h) ∙ ap (λ (z : ℤ). is_zero (u -ℤ z)) (near_same v k)

@@ -18,12 +18,12 @@ use Rattle.cif_values.specs.Runs.{behind_blanks}
 
 order_of : (text : List ℕ) (from first : ℕ) → IsEndAt text from first → from ≤ first
 order_of text from first h =
-    let e : length (drop from text) ≡ length (between text from first) + length (codes "E" ++ drop (first + 1) text) =
-    ap length h.is ∙ length-append (between text from first) (codes "E" ++ drop (first + 1) text) in
+    let e : length (drop from text) ≡ length (between text from first ++ codes "E") + length (drop (first + 1) text) =
+    ap length h.is ∙ length-append (between text from first ++ codes "E") (drop (first + 1) text) in
+    let one : length (between text from first ++ codes "E") ≡ length (between text from first) + 1 = length-append (between text from first) (codes "E") in
     let a = length-drop from text in
     let b = length-drop (first + 1) text in
     let k = length-take (first - from) (drop from text) in
-    let one : length (codes "E" ++ drop (first + 1) text) ≡ suc (length (drop (first + 1) text)) = refl in
     let w = h.within in
     omega (arith, e, a, b, k, one, w)
 
@@ -70,6 +70,10 @@ end_whole s text from first behind opened h b e d c =
     whole [] = refl
     whole (x ∷ xs) = ap (λ (l : List ℕ). x ∷ l) (whole xs)
 
+seam : (xs ys : List ℕ) → drop (length xs) (xs ++ ys) ≡ ys
+seam [] ys = refl
+seam (x ∷ xs) ys = seam xs ys
+
 -- some byte is not
 pub end_followed : (s : CifState) (text : List ℕ) (from first behind : ℕ) (opened : Bool) → IsEndAt text from first → behind ≡ behind_blanks text (first + 1)
     → behind < length text → Decides opened (IsSome s.opening) → opened ≡ false → CommandFault s (take from text) (drop from text) C11 (take behind text)
@@ -85,30 +89,28 @@ end_followed s text from first behind opened h b l d c =
     let P : List ℕ → Type 0 = λ t. CommandFault s (take from text) (drop from text) C11 t in
     let o = order_of text from first h in
     let one : take (first + 1) text ≡ take first text ++ codes "E" = take-add first 1 text ∙ ap (λ (t : List ℕ). take first text ++ t) (first_is o) in
-    let place : (take from text ++ between text from first) ++ (codes "E" ++ take k xs) ≡ take behind text =
-    ap (λ (t : List ℕ). t ++ (codes "E" ++ take k xs)) (front_at text from first o)
-    ∙ (sym (append_assoc (take first text) (codes "E") (take k xs))
-    ∙ (ap (λ (t : List ℕ). t ++ take k xs) (sym one)
-    ∙ (sym (take-add (first + 1) k text) ∙ ap (λ (i : ℕ). take i text) (sym b)))) in
-    subst P (sym (append_assoc (take from text) (between text from first) (codes "E" ++ take k xs)) ∙ place)
+    let place : ((take from text ++ between text from first) ++ codes "E") ++ take k xs ≡ take behind text =
+    ap (λ (t : List ℕ). (t ++ codes "E") ++ take k xs) (front_at text from first o)
+    ∙ (ap (λ (t : List ℕ). t ++ take k xs) (sym one) ∙ (sym (take-add (first + 1) k text) ∙ ap (λ (i : ℕ). take i text) (sym b))) in
+    subst P place
     (CommandFault.behind_end (between text from first) (take k xs) (get_or xs k 0) (drop (k + 1) xs)
-    (h.is ∙ ap (λ (t : List ℕ). between text from first ++ (codes "E" ++ t)) split) h.blanks (outside opened (is_some s.opening) d c)
-    (all_first is_cif_blank xs) (prefix_len_stops is_cif_blank xs 0 inside))
+    (h.is
+    ∙ (ap (λ (t : List ℕ). (between text from first ++ codes "E") ++ t) split
+    ∙ sym (append_assoc (between text from first ++ codes "E") (take k xs) (get_or xs k 0 ∷ drop (k + 1) xs))))
+    h.blanks (outside opened (is_some s.opening) d c) (all_first is_cif_blank xs) (prefix_len_stops is_cif_blank xs 0 inside))
   where
     first_is : from ≤ first → take 1 (drop first text) ≡ codes "E"
     first_is o =
         let e : from + (first - from) ≡ first = omega (arith, o) in
+        let w = h.within in
+        let a = length-drop from text in
+        let l : length (between text from first) ≡ first - from = (let k = length-take (first - from) (drop from text) in omega (arith, k, a, w, o)) in
+        let is : drop from text ≡ between text from first ++ (codes "E" ++ drop (first + 1) text) =
+        h.is ∙ append_assoc (between text from first) (codes "E") (drop (first + 1) text) in
         let t : drop first text ≡ codes "E" ++ drop (first + 1) text =
-        ap (λ (i : ℕ). drop i text) (sym e) ∙ (sym (drop-drop (first - from) from text) ∙ (ap (drop (first - from)) h.is ∙ cut o)) in
+        ap (λ (i : ℕ). drop i text) (sym e)
+        ∙ (sym (drop-drop (first - from) from text)
+        ∙ (ap (drop (first - from)) is
+        ∙ (ap (λ (i : ℕ). drop i (between text from first ++ (codes "E" ++ drop (first + 1) text))) (sym l)
+        ∙ seam (between text from first) (codes "E" ++ drop (first + 1) text)))) in
         ap (take 1) t
-      where
-        cut : from ≤ first → drop (first - from) (between text from first ++ (codes "E" ++ drop (first + 1) text)) ≡ codes "E" ++ drop (first + 1) text
-        cut o =
-            let w = h.within in
-            let a = length-drop from text in
-            let b : length (between text from first) ≡ first - from = (let k = length-take (first - from) (drop from text) in omega (arith, k, a, w, o)) in
-            ap (λ (i : ℕ). drop i (between text from first ++ (codes "E" ++ drop (first + 1) text))) (sym b) ∙ seam (between text from first) (codes "E" ++ drop (first + 1) text)
-
-        seam : (xs ys : List ℕ) → drop (length xs) (xs ++ ys) ≡ ys
-        seam [] ys = refl
-        seam (x ∷ xs) ys = seam xs ys

@@ -128,6 +128,10 @@ fn is_below(text: &[u8], one: Coordinate, other: Coordinate) -> bool
 
 /// The points share a coordinate.
 pub fn is_straight(start: Bend, stop: Bend) -> bool
+    requires start_across { IsNearNumber start.x.value }
+    requires start_upward { IsNearNumber start.y.value }
+    requires stop_across { IsNearNumber stop.x.value }
+    requires stop_upward { IsNearNumber stop.y.value }
     ensures { result ≡ is_axis_segment (record { start = record { x = start.x.value; y = start.y.value }; stop = record { x = stop.x.value; y = stop.y.value } }) }
 {
     let across = shares(start.x.value, stop.x.value);

@@ -1,2 +1,3 @@
 pub mod Kinds
 pub mod Simple
+pub mod Defining

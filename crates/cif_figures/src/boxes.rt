@@ -13,6 +13,7 @@ ghost use Rattle.cif_figures.specs.Boxes.{IsClearBox, is_upright, centred_edges}
 
 use crate::rectangles::scaled_box;
 use cif_codes::{Edges, Scale, box_code};
+use cif_kinds::parts_stand;
 use cif_values::{Sides, box_here};
 use geom::{Box2, CifCode, Layer, Point};
 
@@ -35,6 +36,7 @@ pub fn box_drawn(
     ensures fault { IfErr result (λ code. (s : CifState) (end : ℕ) (c : CommandOf text.now first end kind.Box) → Draws s (ratio scale) layer
         → IsLeastCode s (command_of text.now first end kind.Box c) (Some code)) }
 {
+    parts_stand();
     let sides = box_here(text, first, scale.grid());
     if let Some(code) = box_code(scale, layer, sides) {
         return Err(code);

@@ -17,6 +17,7 @@ ghost use Rattle.cif_figures.specs.Steps.{IsStepOf, AreStepsOf, AreClearMoves, I
 use crate::fault::FigureFault;
 use cif_codes::{Scale, call_code, moves_checks, moves_stand};
 use cif_drawing::Step;
+use cif_kinds::parts_stand;
 use cif_values::{Move, behind_letters, move_here, number_here};
 use geom::Orient;
 use rx_text::NoMemory;
@@ -27,7 +28,8 @@ pub fn called_number(text: &[u8], first: usize) -> u64
     requires { (end : ℕ) × CommandOf text.now first end kind.Calls }
     ensures { (end : ℕ) (c : CommandOf text.now first end kind.Calls) → IsNumberFor (symbol_in (command_of text.now first end kind.Calls c)) result }
 {
-    let (number, _) = number_here(text, behind_letters(text, first, 1), 400);
+    parts_stand();
+    let (number, _) = number_here(text, behind_letters(text, first, 1), GRID);
     number.unsigned_abs()
 }
 
@@ -59,6 +61,7 @@ pub fn steps_called(
         → chain ≡ part_chain (symbol_of s (symbol_in (command_of text.now first end kind.Calls c)))
         → IsFaultOf s (command_of text.now first end kind.Calls c) fault) }
 {
+    parts_stand();
     let (number, from) = number_here(text, behind_letters(text, first, 1), scale.grid());
     let moves = moves_checks(text, from, scale);
     let deep = match chain {
@@ -70,6 +73,9 @@ pub fn steps_called(
     }
     Ok(steps(alloc, text, from, scale)?)
 }
+
+/// What remainders are taken by: twice the units in one lambda.
+const GRID: u64 = 400;
 
 /// The most calls, one within another.
 const MOST_CALLS: u64 = 64;

@@ -8,11 +8,12 @@ ghost use Rattle.cif_kinds.specs.declared.kinds.CommandKind.TheVariants as kind;
 ghost use Rattle.cif_codes.specs.Scales.{ratio, IsScale};
 ghost use Rattle.cif_codes.specs.Least.{IsLeastCode};
 ghost use Rattle.cif_figures.specs.Figures.{CommandOf, command_of, Leads, symbol_in, IsNumberFor};
-ghost use Rattle.cif_figures.specs.Openings.{opened_state};
+ghost use Rattle.cif_figures.specs.Openings.{opened_state, scale_by};
 
 use cif_codes::{Scale, closing_code, opening_code};
+use cif_kinds::parts_stand;
 use cif_values::opening_here;
-use geom::CifCode;
+use geom::{CifCode, Point};
 
 /// A definition: its number, and its scale.
 #[derive(Clone, Copy, Debug, PartialEq, Eq)]
@@ -26,7 +27,8 @@ pub fn opened_number(text: &[u8], first: usize) -> u64
     requires { (end : ℕ) × CommandOf text.now first end kind.Opens }
     ensures { (end : ℕ) (c : CommandOf text.now first end kind.Opens) → IsNumberFor (symbol_in (command_of text.now first end kind.Opens c)) result }
 {
-    opening_here(text, first, 400).number.unsigned_abs()
+    parts_stand();
+    opening_here(text, first, GRID).number.unsigned_abs()
 }
 
 /// The definition that opens here, where its number was defined before or not, and a definition is open or not.
@@ -52,19 +54,31 @@ pub fn definition_opened(
         → Decides again (is_defined s (symbol_in (command_of text.now first end kind.Opens c)) ≡ true) → Decides nested (IsSome s.opening)
         → IsLeastCode s (command_of text.now first end kind.Opens c) (Some code)) }
 {
-    let opening = opening_here(text, first, 400);
+    parts_stand();
+    let opening = opening_here(text, first, GRID);
     if let Some(code) = opening_code(opening, again, nested) {
         return Err(code);
     }
-    let number = opening.number.unsigned_abs();
-    let scale = match opening.scale {
-        Some(written) => Scale {
-            times: written.x.unsigned_abs(),
-            per: written.y.unsigned_abs(),
+    Ok(Definition {
+        number: opening.number.unsigned_abs(),
+        scale: scale_of(opening.scale),
+    })
+}
+
+/// What remainders are taken by: twice the units in one lambda.
+const GRID: u64 = 400;
+
+/// The scale of these numbers, or 1.
+fn scale_of(written: Option<Point>) -> Scale
+    ensures { ratio result ≡ scale_by written }
+{
+    match written {
+        Some(numbers) => Scale {
+            times: numbers.x.unsigned_abs(),
+            per: numbers.y.unsigned_abs(),
         },
         None => Scale { times: 1, per: 1 },
-    };
-    Ok(Definition { number, scale })
+    }
 }
 
 /// The close of a definition, where one is open or not.

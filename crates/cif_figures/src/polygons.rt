@@ -14,6 +14,7 @@ ghost use Rattle.cif_figures.specs.Polygons.{AreClearPoints};
 
 use crate::fault::FigureFault;
 use cif_codes::{Scale, corners_here, points_stand, polygon_code};
+use cif_kinds::parts_stand;
 use cif_values::{behind_letters, point_here};
 use geom::{CifCode, Layer, Point};
 use rx_text::NoMemory;
@@ -49,6 +50,7 @@ pub fn polygon_drawn(
     ensures fault { IfErr result (λ fault. (s : CifState) (end : ℕ) (c : CommandOf text.now first end kind.Polygon) → Draws s (ratio scale) layer
         → IsFaultOf s (command_of text.now first end kind.Polygon c) fault) }
 {
+    parts_stand();
     let at = behind_letters(text, first, 1);
     let corners = corners_here(text, at, scale);
     if let Some(code) = polygon_code(layer, corners) {

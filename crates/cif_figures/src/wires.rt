@@ -12,6 +12,7 @@ ghost use Rattle.cif_figures.specs.Wires.{IsClearWire};
 use crate::fault::FigureFault;
 use crate::rectangles::scaled_box;
 use cif_codes::{Scale, bend_here, points_stand, segment_edges, wire_checks, wire_code};
+use cif_kinds::parts_stand;
 use cif_values::{behind_letters, number_here};
 use geom::{Box2, CifCode, Layer};
 use rx_text::NoMemory;
@@ -38,6 +39,7 @@ pub fn wire_drawn(
     ensures fault { IfErr result (λ fault. (s : CifState) (end : ℕ) (c : CommandOf text.now first end kind.Wire) → Draws s (ratio scale) layer
         → IsFaultOf s (command_of text.now first end kind.Wire c) fault) }
 {
+    parts_stand();
     let found = wire_checks(text, first, scale);
     if let Some(code) = wire_code(layer, found) {
         return Err(FigureFault::Meets(code));

@@ -2,8 +2,9 @@
 use Rattle.std.proofs.Common.{◌≡◌, ◌⊎◌, inl, inr, ℕ, suc, ◌+◌, ◌-◌, ◌<◌, ◌≤◌, ◌==◌, Bool, true, false, cond, not, ◌&&◌, List, [], ◌∷◌, ◌++◌, filter, length, take, drop, get_or, refl, sym, ◌∙◌, ap, subst, arith}
 use Rattle.std.specs.List.{list_all, prefix_len}
 use Rattle.std.proofs.lemmas.Bool.{cases_Bool, cases_lt}
-use Rattle.std.proofs.lemmas.Bool.Decides.{nat_tests}
-use Rattle.std.proofs.lemmas.List.{append-nil, take-append-drop, drop-drop, drop_more, drop_all}
+use Rattle.std.specs.Bool.{Decides}
+use Rattle.std.proofs.lemmas.Bool.Decides.{Decides-eqb}
+use Rattle.std.proofs.lemmas.List.{append-nil, take-append-drop, drop-drop, drop_more, drop_all, length-take, length-drop}
 use Rattle.geom.specs.CifLabels.{label_words, cut_at_spaces, with_byte, has_bytes}
 use Rattle.cif_labels.specs.Words.{is_inside_word, put_word}
 
@@ -104,3 +105,45 @@ word_at text from h =
     none (inr l) e =
         let f : drop from text ≡ [] = drop_all from text l in
         ap (λ (l : List ℕ). drop (prefix_len is_inside_word l) l) f
+
+-- ---- places
+
+-- a space is passed over
+pub pass_space : (text : List ℕ) (from : ℕ) → from < length text → get_or text from 0 ≡ 32 → label_words (drop (from + 1) text) ≡ label_words (drop from text)
+pass_space text from l e =
+    let h : is_inside_word (get_or text from 0) ≡ false = ap is_inside_word e in
+    sym (ap label_words (drop_more text from 0 l) ∙ space_more (get_or text from 0) (drop (from + 1) text) h)
+
+-- any other byte is within a word
+pub no_space_inside : (b : ℕ) → (b ≡ 32 → ⊥) → is_inside_word b ≡ true
+no_space_inside b h = by (b == 32) (Decides-eqb b 32)
+  where
+    by : (t : Bool) → Decides t (b ≡ 32) → not t ≡ true
+    by true d = absurd (h (d.0 refl))
+    by false d = refl
+
+pub word_there : (text : List ℕ) (from to : ℕ) → (from < length text → is_inside_word (get_or text from 0) ≡ true)
+    → to ≡ from + prefix_len is_inside_word (drop from text) → label_words (drop from text) ≡ put_word (take (to - from) (drop from text)) (label_words (drop to text))
+word_there text from to h e =
+    let k : to - from ≡ prefix_len is_inside_word (drop from text) = omega (arith, e) in
+    word_at text from h
+    ∙ (ap (λ (n : ℕ). put_word (take n (drop from text)) (label_words (drop (from + prefix_len is_inside_word (drop from text)) text))) (sym k)
+    ∙ ap (λ (n : ℕ). put_word (take (to - from) (drop from text)) (label_words (drop n text))) (sym e))
+
+-- no word stands at the end alone
+pub word_last : (text : List ℕ) (from to : ℕ) → from ≤ length text → (from < length text → is_inside_word (get_or text from 0) ≡ true)
+    → to ≡ from + prefix_len is_inside_word (drop from text) → to ≤ length text → take (to - from) (drop from text) ≡ [] → to ≡ length text
+word_last text from to w h e l n = elim (cases_lt from (length text)) [
+  | inl s ↦ absurd (some s)
+  | inr s ↦ omega (arith, e, l, s)
+]
+  where
+    some : from < length text → ⊥
+    some s =
+        let k : prefix_len is_inside_word (drop from text) ≡ 1 + prefix_len is_inside_word (drop (from + 1) text) =
+        ap (prefix_len is_inside_word) (drop_more text from 0 s)
+        ∙ ap (λ (v : Bool). cond v (1 + prefix_len is_inside_word (drop (from + 1) text)) 0) (h s) in
+        let a = length-take (to - from) (drop from text) in
+        let b = length-drop from text in
+        let z : length (take (to - from) (drop from text)) ≡ 0 = ap length n in
+        omega (arith, k, a, b, z, e, s)

@@ -392,3 +392,31 @@ great_same s text pad spot point off open f g m =
 pub unnamed : (s : CifState) (text : List ℕ) → ((pad : NamedRole) (behind : List (List ℕ)) → NamesPad text pad behind → ⊥) → IsLeastCode s (Extension text) None
 unnamed s text n =
     least_none s text (λ l. n l.pad (l.words.0 ∷ l.words.1 ∷ l.words.2 ∷ []) l.names) (λ m. n m.0 m.1 m.2) (λ m. n m.0 m.1 m.2)
+
+-- ---- flags
+
+pub and_true : (a b c : Bool) → (a && b && not c) ≡ true → (a ≡ true) × (b ≡ true) × (c ≡ false)
+and_true true true false e = (refl, refl, refl)
+and_true true true true e = absurd cc
+and_true true false c e = absurd cc
+and_true false b c e = absurd cc
+
+pub bad_cases : (a b : Bool) → (a || b) ≡ true → (a ≡ true) ⊎ (b ≡ true)
+bad_cases true b e = inl refl
+bad_cases false b e = inr e
+
+pub not_bad : (a b : Bool) → (a || b) ≡ false → (a ≡ false) × (b ≡ false)
+not_bad true b e = absurd cc
+not_bad false b e = (refl, e)
+
+pub great_met : (s : CifState) (text : List ℕ) (pad : NamedRole) (behind : List (List ℕ)) → NamesPad text pad behind → HasGreatNumber behind → MeetsCode C8 s (Extension text)
+great_met s text pad behind n g = (pad, behind, n, g)
+
+-- a label that is malformed, or stands in a definition
+pub bad_met : (s : CifState) (text : List ℕ) (pad : NamedRole) (behind : List (List ℕ)) → NamesPad text pad behind
+    → IsSome s.opening ⊎ ((label : Label) → IsLabel text label → ⊥) → MeetsCode C12 s (Extension text)
+bad_met s text pad behind n h = (pad, behind, n, h)
+
+-- none of these
+pub good : (s : CifState) (text : List ℕ) (label : Label) → (IsSome s.opening → ⊥) → IsLabel text label → MeetsCode C12 s (Extension text) → ⊥
+good s text label n l m = elim m.3 [ inl o ↦ n o | inr k ↦ k label l ]

@@ -1,6 +1,6 @@
 // The labels of user extensions, and their codes.
 
-ghost use Rattle.std.specs.Prelude.{◌≡◌, ◌≤◌, ℕ, pos, int_div, List, Option, Some, None, IsSome, IsNone, IfSome, IfOk, IfErr, length, drop};
+ghost use Rattle.std.specs.Prelude.{◌≡◌, ◌≤◌, ◌&&◌, ◌||◌, not, ℕ, pos, int_div, List, Option, Some, None, IsSome, IsNone, IfSome, IfOk, IfErr, length, drop};
 ghost use Rattle.std.specs.Bool.{Decides};
 ghost use Rattle.rx_text.specs.Role.{NamedRole};
 ghost use Rattle.rx_text.specs.declared.place.Place.{Place};
@@ -64,27 +64,42 @@ fn placed(pad: PadName, spot: Spot, is_open: bool) -> Result<Label, CifCode>
     ensures fault { IfErr result (λ code. (text : List ℕ) (behind : List (List ℕ)) (s : CifState) → NamesPad text pad behind → IsSpotOf behind spot
         → Decides is_open (IsSome s.opening) → IsLeastCode s (Extension text) (Some code)) }
 {
-    let point = spot.point();
     let off = spot.is_off();
-    let odd = off && spot.named && !is_open;
-    if odd {
+    if is_off_grid(off, spot.named, is_open) {
         return Err(CifCode::C7);
     }
     if spot.is_great() {
         return Err(CifCode::C8);
     }
-    if off || is_open {
+    if is_bad(off, is_open) {
         return Err(CifCode::C12);
     }
-    match (point, spot.layer) {
-        (Some(point), Some(layer)) => Ok(Label {
-            pad,
-            layer,
-            x: lambdas(point.x),
-            y: lambdas(point.y),
-        }),
-        _ => Err(CifCode::C12),
+    match spot.point() {
+        Some(point) => match spot.layer {
+            Some(layer) => Ok(Label {
+                pad,
+                layer,
+                x: lambdas(point.x),
+                y: lambdas(point.y),
+            }),
+            None => Err(CifCode::C12),
+        },
+        None => Err(CifCode::C12),
     }
+}
+
+/// The point is off the grid, of a label whose words are all there, outside definitions.
+fn is_off_grid(off: bool, named: bool, is_open: bool) -> bool
+    ensures { result ≡ (off && named && not is_open) }
+{
+    off && named && !is_open
+}
+
+/// The point is off the grid, or a definition is open.
+fn is_bad(off: bool, is_open: bool) -> bool
+    ensures { result ≡ (off || is_open) }
+{
+    off || is_open
 }
 
 /// The units in one lambda.

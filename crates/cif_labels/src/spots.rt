@@ -1,11 +1,11 @@
 // What stands behind the name of a pad.
 
-ghost use Rattle.std.specs.Prelude.{◌≡◌, ◌≤◌, ◌||◌, ℕ, ℤ, List, Some, length, drop};
+ghost use Rattle.std.specs.Prelude.{◌≡◌, ◌≤◌, ◌||◌, ℕ, ℤ, List, [], Some, None, length, drop, if◌then◌else◌};
 ghost use Rattle.std.specs.Bool.{Decides};
 ghost use Rattle.rx_text.specs.NumberInText.{is_digit};
 ghost use Rattle.geom.specs.CifCommands.{IsShortName, WritesSigned, is_capital};
 ghost use Rattle.geom.specs.CifCodes.{IsTooGreat, HasGreatNumber};
-ghost use Rattle.geom.specs.CifLabels.{label_words, bears_labels};
+ghost use Rattle.geom.specs.CifLabels.{label_words, bears_labels, has_bytes};
 ghost use Rattle.cif_values.specs.Values.{IsNearNumber};
 ghost use Rattle.cif_labels.specs.Spots.{Reads, IsSpotOf, IsNearSpot, OffTold, layer_in, point_of};
 
@@ -41,12 +41,33 @@ pub fn spot_here(text: &[u8], at: usize) -> Spot
     let (y, third) = word_here(text, second);
     let (layer, fourth) = word_here(text, third);
     let (more, _) = word_here(text, fourth);
-    let last = more.is_empty();
     Spot {
         x: written_number(x, GRID),
         y: written_number(y, GRID),
-        named: last && is_short_name(layer),
-        layer: if last { layer_of(layer) } else { None },
+        named: is_last_name(layer, more),
+        layer: last_layer(layer, more),
+    }
+}
+
+/// The word is 1 to 4 capital letters or digits, and nothing stands behind it.
+fn is_last_name(word: &[u8], more: &[u8]) -> bool
+    ensures { Decides result ((more.now ≡ []) × IsShortName word.now) }
+{
+    if more.is_empty() {
+        is_short_name(word)
+    } else {
+        false
+    }
+}
+
+/// The layer of the name, of those on which labels stand, where nothing stands behind it.
+fn last_layer(word: &[u8], more: &[u8]) -> Option<Layer>
+    ensures { result ≡ if has_bytes more.now then None else layer_in word.now }
+{
+    if more.is_empty() {
+        layer_of(word)
+    } else {
+        None
     }
 }
 
@@ -110,7 +131,7 @@ impl Spot {
     pub fn is_great(self) -> bool
         ensures { (behind : List (List ℕ)) → IsSpotOf behind self → Decides result (HasGreatNumber behind) }
     {
-        is_great_number(self.x) || is_great_number(self.y)
+        either(is_great_number(self.x), is_great_number(self.y))
     }
 }
 
@@ -133,4 +154,11 @@ fn is_off(point: Point) -> bool
     let one = Scale { times: 1, per: 1 };
     let across = Checks::none().with_coordinate(one, point.x);
     across.with_coordinate(one, point.y).off
+}
+
+/// One of the two.
+fn either(one: bool, other: bool) -> bool
+    ensures { result ≡ (one || other) }
+{
+    one || other
 }
