@@ -197,7 +197,7 @@ between_push : (w : ℕ) (a : Point) (points : List Point) (q : Point)
     ≡ between_points w (a ∷ points) ++ outline_distances (segment_outline w (segment_to (doubled (last_point a points)) (doubled q)))
 between_push w a points q =
     let sides : open_sides (map doubled ((a ∷ points) ++ q ∷ []))
-        ≡ segments_from (doubled a) (map doubled points) ++ segment_to (doubled (last_point a points)) (doubled q) ∷ [] =
+    ≡ segments_from (doubled a) (map doubled points) ++ segment_to (doubled (last_point a points)) (doubled q) ∷ [] =
     ap (segments_from (doubled a)) (map_push doubled points q)
     ∙ (segments_push (doubled a) (map doubled points) (doubled q)
     ∙ ap (λ (p : Point). segments_from (doubled a) (map doubled points) ++ segment_to p (doubled q) ∷ []) (last_doubled a points)) in

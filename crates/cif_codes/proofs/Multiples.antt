@@ -71,20 +71,20 @@ at_most : (q s : ℤ) (g : ℕ) → 0 < g → q *ℤ pos g ≡ s → (pos (g * 2
 at_most q s g h e n =
     by_lt_z (pos (2 ^ 40)) q
     (λ l. absurd (n (
-      let f : pos (2 ^ 40) *ℤ pos g ≡ pos (g * 2 ^ 40) = omega (arith, ints, product_is) in
-      let P : ℤ → Type 0 = λ v. v <ℤ (q *ℤ pos g) in
-      let Q : ℤ → Type 0 = λ v. pos (g * 2 ^ 40) <ℤ v in
-      subst Q e (subst P f (times_lt (pos (2 ^ 40)) q g l h)))))
+    let f : pos (2 ^ 40) *ℤ pos g ≡ pos (g * 2 ^ 40) = omega (arith, ints, product_is) in
+    let P : ℤ → Type 0 = λ v. v <ℤ (q *ℤ pos g) in
+    let Q : ℤ → Type 0 = λ v. pos (g * 2 ^ 40) <ℤ v in
+    subst Q e (subst P f (times_lt (pos (2 ^ 40)) q g l h)))))
     (λ m. m)
 
 at_least : (q s : ℤ) (g : ℕ) → 0 < g → q *ℤ pos g ≡ s → (s <ℤ neg_ℤ (pos (g * 2 ^ 40)) → ⊥) → neg_ℤ (pos (2 ^ 40)) ≤ℤ q
 at_least q s g h e n =
     by_lt_z q (neg_ℤ (pos (2 ^ 40)))
     (λ l. absurd (n (
-      let f : neg_ℤ (pos (2 ^ 40)) *ℤ pos g ≡ neg_ℤ (pos (g * 2 ^ 40)) = omega (arith, ints, product_is) in
-      let P : ℤ → Type 0 = λ v. (q *ℤ pos g) <ℤ v in
-      let Q : ℤ → Type 0 = λ v. v <ℤ neg_ℤ (pos (g * 2 ^ 40)) in
-      subst Q e (subst P f (times_lt q (neg_ℤ (pos (2 ^ 40))) g l h)))))
+    let f : neg_ℤ (pos (2 ^ 40)) *ℤ pos g ≡ neg_ℤ (pos (g * 2 ^ 40)) = omega (arith, ints, product_is) in
+    let P : ℤ → Type 0 = λ v. (q *ℤ pos g) <ℤ v in
+    let Q : ℤ → Type 0 = λ v. v <ℤ neg_ℤ (pos (g * 2 ^ 40)) in
+    subst Q e (subst P f (times_lt q (neg_ℤ (pos (2 ^ 40))) g l h)))))
     (λ m. m)
 
 -- the distance of which this is twice the number of units

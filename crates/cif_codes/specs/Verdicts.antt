@@ -37,9 +37,9 @@ opening_verdict again nested great C8 = great
 opening_verdict again nested great code = false
 
 -- the code of commands that set layers
-abbrev pub layer_verdict : (bare : Bool) → CifCode → Bool
-layer_verdict bare C2 = bare
-layer_verdict bare code = false
+abbrev pub layer_verdict : (unnamed : Bool) → CifCode → Bool
+layer_verdict unnamed C2 = unnamed
+layer_verdict unnamed code = false
 
 -- the code of closes of definitions
 abbrev pub closing_verdict : (outside : Bool) → CifCode → Bool

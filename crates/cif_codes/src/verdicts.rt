@@ -72,10 +72,10 @@ pub fn opening_verdict_code(again: bool, nested: bool, great: bool) -> Option<Ci
 }
 
 /// Of a command that sets a layer: no layer has the name.
-pub fn layer_verdict_code(bare: bool) -> Option<CifCode>
-    ensures { result ≡ first_code (layer_verdict bare) }
+pub fn layer_verdict_code(unnamed: bool) -> Option<CifCode>
+    ensures { result ≡ first_code (layer_verdict unnamed) }
 {
-    if bare { Some(CifCode::C2) } else { None }
+    if unnamed { Some(CifCode::C2) } else { None }
 }
 
 /// Of the close of a definition: none is open.

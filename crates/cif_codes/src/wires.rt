@@ -119,7 +119,14 @@ impl Bends {
     }
 
     /// With the segment to a point more, whose numbers are checked.
-    fn joined(self, text: &[u8], scale: Scale, width: i64, checks: Checks, bend: Bend) -> (Checks, bool)
+    fn joined(
+        self,
+        text: &[u8],
+        scale: Scale,
+        width: i64,
+        checks: Checks,
+        bend: Bend,
+    ) -> (Checks, bool)
         requires scale { IsScale scale }
         requires width { IsNearNumber width }
         requires last { IsNearLast text.now self.last }
@@ -134,7 +141,10 @@ impl Bends {
             Some(last) => {
                 let edges = segment_edges(text, width, last, bend);
                 let straight = is_straight(last, bend);
-                (with_edges(scale, checks, edges), either(self.oblique, !straight))
+                (
+                    with_edges(scale, checks, edges),
+                    either(self.oblique, !straight),
+                )
             }
             None => (checks, self.oblique),
         }

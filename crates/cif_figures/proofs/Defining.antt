@@ -5,22 +5,23 @@ use Rattle.std.specs.Int.RustNames.{unsigned_abs}
 use Rattle.std.proofs.lemmas.Bool.{cases_lt}
 use Rattle.std.proofs.lemmas.Bool.Decides.{Decides-eqb}
 use Rattle.std.proofs.lemmas.Int.{ints}
-use Rattle.rx_text.specs.declared.place.Place.{Place}
 use Rattle.geom.specs.declared.point.Point.{Point}
 use Rattle.geom.specs.declared.cif_code.CifCode.{CifCode}
 use Rattle.geom.specs.declared.cif_code.CifCode.TheVariants.{C8}
 use Rattle.geom.specs.CifCommands.{CifScale, CifCommand, Opens, command_parts, SpellsCommand, IsLegalCommand}
 use Rattle.geom.specs.CifCodes.{SomeIs, IsTooGreat, MeetsCode, part_numbers, is_defined}
 use Rattle.geom.specs.CifDrawings.{CifState, CifSymbol, CifOpening, scale_or_one}
-use Rattle.cif_syntax.specs.Sentences.{IsCommandAt}
 use Rattle.cif_values.specs.declared.openings.Opening.{Opening}
 use Rattle.cif_values.specs.Numbers.{StandsFor}
 use Rattle.cif_values.specs.Values.{OpeningStands, ScaleStands}
 use Rattle.cif_codes.specs.declared.scale.Scale.{Scale}
 use Rattle.cif_codes.specs.Scales.{ratio, IsScale}
 use Rattle.cif_codes.specs.Least.{IsLeastCode}
-use Rattle.cif_figures.specs.Figures.{Leads, IsNumberFor}
+use Rattle.cif_kinds.specs.declared.kinds.CommandKind.TheVariants as kind
+use Rattle.cif_values.specs.Parts.{PartsAt}
+use Rattle.cif_figures.specs.Figures.{CommandOf, Leads, IsNumberFor}
 use Rattle.cif_figures.specs.Openings.{opened_state, scale_by}
+use Rattle.cif_figures.proofs.Kinds.{PartsLaw, is_opening, parts_of, spelled_of}
 use Rattle.cif_figures.proofs.Simple.{leads_by}
 
 -- ---- a number and what stands for it
@@ -160,3 +161,17 @@ pub opening_leads : (s : CifState) (c : CifCommand) (n number : ℕ) (scale : Op
 opening_leads s c n number scale found r e f h a b =
     leads_by s c (Opens n scale) r (λ place. opened_state s number found) e f h
     (λ place. ap (λ (v : ℕ). opened_state s v found) a ∙ ap (λ (v : CifScale). opened_state s n v) b)
+
+-- the definition that stands in a text
+pub opened_by : (text : List ℕ) (first end : ℕ) (k : CommandOf text first end kind.Opens) (opening : Opening) (found : Scale) (again nested : Bool) (r : Option CifCode)
+    → PartsLaw → ((stop n : ℕ) (scale : Option CifScale) → PartsAt text first stop (command_parts (Opens n scale)) → OpeningStands 400 n scale opening)
+    → ((s : CifState) (m n : ℕ) (scale : Option CifScale) → OpeningStands m n scale opening → Decides again (is_defined s n ≡ true) → Decides nested (IsSome s.opening)
+    → IsLeastCode s (Opens n scale) r)
+    → r ≡ None → ratio found ≡ scale_by opening.scale
+    → Defined (is_opening k.stands.here.command k.kind_is).0 (is_opening k.stands.here.command k.kind_is).1 opening found
+opened_by text first end k opening found again nested r law here code f e =
+    let o = is_opening k.stands.here.command k.kind_is in
+    let p = parts_of text first end kind.Opens k (Opens o.0 o.1) o.2 tt law in
+    let h = here (end - 1) o.0 o.1 p in
+    defined 400 o.0 o.1 opening found again nested k.stands.here.bytes h (spelled_of text first end kind.Opens k (Opens o.0 o.1) o.2)
+    (λ s a n. (let Q : Option CifCode → Type 0 = λ v. IsLeastCode s (Opens o.0 o.1) v in subst Q f (code s 400 o.0 o.1 h a n))) e

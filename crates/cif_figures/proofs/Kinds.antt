@@ -1,16 +1,18 @@
 -- Commands by their kinds.
-use Rattle.std.proofs.Common.{◌≡◌, ◌≢◌, ◌⊎◌, inl, inr, ℕ, true, false, List, [], Option, Some, None, refl}
+use Rattle.std.proofs.Common.{◌≡◌, inl, inr, ℕ, ◌-◌, List, Option, None, refl, sym, subst}
 use Rattle.geom.specs.declared.point.Point.{Point}
 use Rattle.geom.specs.declared.cif_code.CifCode.{CifCode}
 use Rattle.geom.specs.declared.cif_code.CifCode.TheVariants.{C8}
-use Rattle.rx_text.specs.declared.place.Place.{Place}
-use Rattle.geom.specs.CifCommands.{CifScale, CifMove, CifCommand, Empty, Comment, Opens, Closes, CallsSymbol, SetsLayer, DrawsBox, DrawsPolygon, DrawsWire, Extension}
+use Rattle.geom.specs.CifCommands.{CifScale, CifMove, CifCommand, Empty, Comment, Opens, Closes, CallsSymbol, SetsLayer, DrawsBox, DrawsPolygon, DrawsWire, Extension, SpellsCommand, command_parts}
 use Rattle.geom.specs.CifCodes.{MeetsCode}
 use Rattle.geom.specs.CifDrawings.{CifState}
 use Rattle.cif_kinds.specs.declared.kinds.CommandKind.TheVariants as kind
-use Rattle.cif_kinds.specs.Kinds.{kind_of}
+use Rattle.cif_syntax.specs.Sentences.{IsCommandAt}
+use Rattle.cif_values.specs.Parts.{PartsAt}
+use Rattle.cif_kinds.specs.declared.kinds.CommandKind.{CommandKind}
+use Rattle.cif_kinds.specs.Kinds.{kind_of, IsMadeOfParts}
 use Rattle.cif_codes.specs.Least.{IsLeastCode}
-use Rattle.cif_figures.specs.Figures.{Leads}
+use Rattle.cif_figures.specs.Figures.{CommandOf, Leads}
 
 pub is_layer : (c : CifCommand) → kind_of c ≡ kind.Layer → (name : List ℕ) × (c ≡ SetsLayer name)
 is_layer (SetsLayer name) e = (name, refl)
@@ -51,6 +53,23 @@ is_wire c e = absurd cc
 pub is_extension : (c : CifCommand) → kind_of c ≡ kind.Extension → (text : List ℕ) × (c ≡ Extension text)
 is_extension (Extension text) e = (text, refl)
 is_extension c e = absurd cc
+
+-- where the parts of a command stand, by the law of the crate below
+abbrev pub PartsLaw : Type 0
+PartsLaw =
+    (text : List ℕ) (from first end : ℕ) (h : IsCommandAt text from first end) → IsMadeOfParts h.here.command
+    → PartsAt text first (end - 1) (command_parts h.here.command)
+
+pub parts_of : (text : List ℕ) (first end : ℕ) (k : CommandKind) (c : CommandOf text first end k) (d : CifCommand) → c.stands.here.command ≡ d → IsMadeOfParts d → PartsLaw
+    → PartsAt text first (end - 1) (command_parts d)
+parts_of text first end k c d e m law =
+    let M : CifCommand → Type 0 = λ x. IsMadeOfParts x in
+    let P : CifCommand → Type 0 = λ x. PartsAt text first (end - 1) (command_parts x) in
+    subst P e (law text c.from first end c.stands (subst M (sym e) m))
+
+pub spelled_of : (text : List ℕ) (first end : ℕ) (k : CommandKind) (c : CommandOf text first end k) (d : CifCommand) → c.stands.here.command ≡ d
+    → SpellsCommand d c.stands.here.bytes
+spelled_of text first end k c d e = let P : CifCommand → Type 0 = λ x. SpellsCommand x c.stands.here.bytes in subst P e c.stands.here.spelled
 
 -- ---- commands that do nothing
 

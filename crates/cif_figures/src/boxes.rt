@@ -38,12 +38,12 @@ pub fn box_drawn(
 {
     parts_stand();
     let sides = box_here(text, first, scale.grid());
-    if let Some(code) = box_code(scale, layer, sides) {
-        return Err(code);
-    }
-    match layer {
-        Some(layer) => Ok(box_of(scale, layer, sides)),
-        None => Err(CifCode::C3),
+    match box_code(scale, layer, sides) {
+        Some(code) => Err(code),
+        None => match layer {
+            Some(layer) => Ok(box_of(scale, layer, sides)),
+            None => Err(CifCode::C3),
+        },
     }
 }
 

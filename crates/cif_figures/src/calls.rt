@@ -68,10 +68,10 @@ pub fn steps_called(
         Some(calls) => MOST_CALLS < calls,
         None => false,
     };
-    if let Some(code) = call_code(scale, number, moves, chain.is_none(), deep) {
-        return Err(FigureFault::Meets(code));
+    match call_code(scale, number, moves, chain.is_none(), deep) {
+        Some(code) => Err(FigureFault::Meets(code)),
+        None => Ok(steps(alloc, text, from, scale)?),
     }
-    Ok(steps(alloc, text, from, scale)?)
 }
 
 /// What remainders are taken by: twice the units in one lambda.

@@ -56,13 +56,13 @@ pub fn definition_opened(
 {
     parts_stand();
     let opening = opening_here(text, first, GRID);
-    if let Some(code) = opening_code(opening, again, nested) {
-        return Err(code);
+    match opening_code(opening, again, nested) {
+        Some(code) => Err(code),
+        None => Ok(Definition {
+            number: opening.number.unsigned_abs(),
+            scale: scale_of(opening.scale),
+        }),
     }
-    Ok(Definition {
-        number: opening.number.unsigned_abs(),
-        scale: scale_of(opening.scale),
-    })
 }
 
 /// What remainders are taken by: twice the units in one lambda.

@@ -23,11 +23,11 @@ pub fn layer_set(text: &[u8], first: usize) -> Result<Layer, CifCode>
         → IsLeastCode s (command_of text.now first end kind.Layer c) (Some code)) }
 {
     let layer = layer_here(text, first);
-    if let Some(code) = layer_code(layer) {
-        return Err(code);
-    }
-    match layer {
-        Some(layer) => Ok(layer),
-        None => Err(CifCode::C2),
+    match layer_code(layer) {
+        Some(code) => Err(code),
+        None => match layer {
+            Some(layer) => Ok(layer),
+            None => Err(CifCode::C2),
+        },
     }
 }

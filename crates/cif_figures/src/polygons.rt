@@ -53,15 +53,15 @@ pub fn polygon_drawn(
     parts_stand();
     let at = behind_letters(text, first, 1);
     let corners = corners_here(text, at, scale);
-    if let Some(code) = polygon_code(layer, corners) {
-        return Err(FigureFault::Meets(code));
-    }
-    match layer {
-        Some(layer) => Ok(Polygon {
-            layer,
-            points: scaled_points(alloc, text, at, scale)?,
-        }),
-        None => Err(FigureFault::Meets(CifCode::C3)),
+    match polygon_code(layer, corners) {
+        Some(code) => Err(FigureFault::Meets(code)),
+        None => match layer {
+            Some(layer) => Ok(Polygon {
+                layer,
+                points: scaled_points(alloc, text, at, scale)?,
+            }),
+            None => Err(FigureFault::Meets(CifCode::C3)),
+        },
     }
 }
 

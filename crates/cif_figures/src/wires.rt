@@ -41,12 +41,12 @@ pub fn wire_drawn(
 {
     parts_stand();
     let found = wire_checks(text, first, scale);
-    if let Some(code) = wire_code(layer, found) {
-        return Err(FigureFault::Meets(code));
-    }
-    match layer {
-        Some(layer) => Ok(boxes_of(alloc, text, first, scale, layer)?),
-        None => Err(FigureFault::Meets(CifCode::C3)),
+    match wire_code(layer, found) {
+        Some(code) => Err(FigureFault::Meets(code)),
+        None => match layer {
+            Some(layer) => Ok(boxes_of(alloc, text, first, scale, layer)?),
+            None => Err(FigureFault::Meets(CifCode::C3)),
+        },
     }
 }
 

@@ -191,36 +191,36 @@ opened : (o : Option CifOpening) → is_some o ≡ false → o ≡ None
 opened None e = refl
 opened (Some x) e = absurd cc
 
-closed_by : (s : CifState) (open : Bool) → Decides open (IsSome s.opening) → open ≡ false → s.opening ≡ None
-closed_by s open d e = opened s.opening (by (is_some s.opening) refl)
+closed_by : (s : CifState) (unclosed : Bool) → Decides unclosed (IsSome s.opening) → unclosed ≡ false → s.opening ≡ None
+closed_by s unclosed d e = opened s.opening (by (is_some s.opening) refl)
   where
     by : (t : Bool) → is_some s.opening ≡ t → t ≡ false
     by true f = let z : true ≡ false = sym (d.1 f) ∙ e in absurd cc
     by false f = refl
 
-open_by : (s : CifState) (open : Bool) → Decides open (IsSome s.opening) → s.opening ≡ None → open ≡ false
-open_by s open d e = by open refl
+open_by : (s : CifState) (unclosed : Bool) → Decides unclosed (IsSome s.opening) → s.opening ≡ None → unclosed ≡ false
+open_by s unclosed d e = by unclosed refl
   where
-    by : (t : Bool) → open ≡ t → t ≡ false
+    by : (t : Bool) → unclosed ≡ t → t ≡ false
     by true f = let z : false ≡ true = sym (ap is_some e) ∙ d.0 f in absurd cc
     by false f = refl
 
 -- what the code has found of an extension that names a pad
-pub record Found (s : CifState) (text : List ℕ) (pad : NamedRole) (spot : Spot) (point : Option Point) (off open : Bool) : Type 0 where
+pub record Found (s : CifState) (text : List ℕ) (pad : NamedRole) (spot : Spot) (point : Option Point) (off unclosed : Bool) : Type 0 where
   pub behind : List (List ℕ)
   pub names : NamesPad text pad behind
   pub spot_is : IsSpotOf behind spot
   pub point_is : point ≡ point_of spot
   pub off_is : OffTold point off
-  pub open_is : Decides open (IsSome s.opening)
+  pub open_is : Decides unclosed (IsSome s.opening)
 
 and_false : (a b c : Bool) → (a && b && not c) ≡ false → a ≡ true → b ≡ true → c ≡ false → ⊥
 and_false a b c e f g h =
     let z : true ≡ false = sym (ap (λ (v : Bool). v && b && not c) f ∙ (ap (λ (v : Bool). v && not c) g ∙ ap not h)) ∙ e in cc
 
-pub no_off : (s : CifState) (text : List ℕ) (pad : NamedRole) (spot : Spot) (point : Option Point) (off open : Bool) → Found s text pad spot point off open
-    → (off && spot.named && not open) ≡ false → LabelIsOffGrid s.opening text → ⊥
-no_off s text pad spot point off open f e l =
+pub no_off : (s : CifState) (text : List ℕ) (pad : NamedRole) (spot : Spot) (point : Option Point) (off unclosed : Bool) → Found s text pad spot point off unclosed
+    → (off && spot.named && not unclosed) ≡ false → LabelIsOffGrid s.opening text → ⊥
+no_off s text pad spot point off unclosed f e l =
     let same = same_behind text pad l.pad f.behind (l.words.0 ∷ l.words.1 ∷ l.words.2 ∷ []) f.names l.names in
     let h = f.spot_is in
     let t = three_words h.x h.y h.layer h.more h.others l.words.0 l.words.1 l.words.2 (sym h.are ∙ sym same) in
@@ -228,11 +228,11 @@ no_off s text pad spot point off open f e l =
     let Q : List ℕ → Type 0 = λ w. WritesSigned l.y w in
     let R : List ℕ → Type 0 = λ w. IsShortName w in
     let d = off_told h.x h.y spot.x spot.y point off h.x_is h.y_is f.point_is f.off_is l.x l.y (subst P (sym t.x_is) l.across) (subst Q (sym t.y_is) l.upward) in
-    and_false off spot.named open e (d.1 l.off) (h.named_is.1 (t.last, subst R (sym t.layer_is) l.layer)) (open_by s open f.open_is l.outside)
+    and_false off spot.named unclosed e (d.1 l.off) (h.named_is.1 (t.last, subst R (sym t.layer_is) l.layer)) (open_by s unclosed f.open_is l.outside)
 
-pub is_off_grid : (s : CifState) (text : List ℕ) (pad : NamedRole) (spot : Spot) (point : Option Point) (off open : Bool) → Found s text pad spot point off open
-    → off ≡ true → spot.named ≡ true → open ≡ false → LabelIsOffGrid s.opening text
-is_off_grid s text pad spot point off open f a b c = by point f.point_is f.off_is
+pub is_off_grid : (s : CifState) (text : List ℕ) (pad : NamedRole) (spot : Spot) (point : Option Point) (off unclosed : Bool) → Found s text pad spot point off unclosed
+    → off ≡ true → spot.named ≡ true → unclosed ≡ false → LabelIsOffGrid s.opening text
+is_off_grid s text pad spot point off unclosed f a b c = by point f.point_is f.off_is
   where
     h : IsSpotOf f.behind spot
     h = f.spot_is
@@ -254,13 +254,13 @@ is_off_grid s text pad spot point off open f a b c = by point f.point_is f.off_i
           across = r.x_written;
           upward = r.y_written;
           off = (t r.across r.upward r.x_stands r.y_stands).0 a;
-          outside = closed_by s open f.open_is c;
+          outside = closed_by s unclosed f.open_is c;
         }
 
 -- no label is off the grid
-pub off_no_label : (s : CifState) (text : List ℕ) (pad : NamedRole) (spot : Spot) (point : Option Point) (off open : Bool) → Found s text pad spot point off open
+pub off_no_label : (s : CifState) (text : List ℕ) (pad : NamedRole) (spot : Spot) (point : Option Point) (off unclosed : Bool) → Found s text pad spot point off unclosed
     → off ≡ true → (label : Label) → IsLabel text label → ⊥
-off_no_label s text pad spot point off open f a label l =
+off_no_label s text pad spot point off unclosed f a label l =
     let same = same_behind text pad label.pad f.behind (l.x ∷ l.y ∷ layer_word label.layer ∷ []) f.names l.names in
     let h = f.spot_is in
     let t = three_words h.x h.y h.layer h.more h.others l.x l.y (layer_word label.layer) (sym h.are ∙ sym same) in
@@ -274,9 +274,9 @@ off_no_label s text pad spot point off open f a label l =
     ]
 
 -- nor has one no point, or no layer
-pub pointless_no_label : (s : CifState) (text : List ℕ) (pad : NamedRole) (spot : Spot) (point : Option Point) (off open : Bool) → Found s text pad spot point off open
+pub pointless_no_label : (s : CifState) (text : List ℕ) (pad : NamedRole) (spot : Spot) (point : Option Point) (off unclosed : Bool) → Found s text pad spot point off unclosed
     → (point ≡ None) ⊎ (spot.layer ≡ None) → (label : Label) → IsLabel text label → ⊥
-pointless_no_label s text pad spot point off open f a label l =
+pointless_no_label s text pad spot point off unclosed f a label l =
     let same = same_behind text pad label.pad f.behind (l.x ∷ l.y ∷ layer_word label.layer ∷ []) f.names l.names in
     let h = f.spot_is in
     let t = three_words h.x h.y h.layer h.more h.others l.x l.y (layer_word label.layer) (sym h.are ∙ sym same) in
@@ -306,10 +306,10 @@ no_great : (x y : List ℕ) (words : List (List ℕ)) (z : ℤ) → (HasGreatNum
 no_great x y words z h w g = h (z, w, g)
 
 -- the label
-pub is_label : (s : CifState) (text : List ℕ) (pad : NamedRole) (spot : Spot) (p : Point) (layer : Layer) (open : Bool) (x y : ℤ)
-    → (f : Found s text pad spot (Some p) false open) → (HasGreatNumber f.behind → ⊥) → spot.layer ≡ Some layer → x ≡ int_div p.x (pos 200) → y ≡ int_div p.y (pos 200)
+pub is_label : (s : CifState) (text : List ℕ) (pad : NamedRole) (spot : Spot) (p : Point) (layer : Layer) (unclosed : Bool) (x y : ℤ)
+    → (f : Found s text pad spot (Some p) false unclosed) → (HasGreatNumber f.behind → ⊥) → spot.layer ≡ Some layer → x ≡ int_div p.x (pos 200) → y ≡ int_div p.y (pos 200)
     → IsLabel text (record { pad = pad; layer = layer; x = x; y = y })
-is_label s text pad spot p layer open x y f g e i j =
+is_label s text pad spot p layer unclosed x y f g e i j =
     let h = f.spot_is in
     let r = point_read h.x h.y spot.x spot.y p h.x_is h.y_is (sym f.point_is) in
     let t = third_word h.layer h.more layer (sym h.layer_is ∙ e) in
@@ -382,9 +382,9 @@ least_none s text n g h code m = by code m
     by code m = absurd m
 
 -- numbers of words of another pad's name are the same
-pub great_same : (s : CifState) (text : List ℕ) (pad : NamedRole) (spot : Spot) (point : Option Point) (off open : Bool) → (f : Found s text pad spot point off open)
+pub great_same : (s : CifState) (text : List ℕ) (pad : NamedRole) (spot : Spot) (point : Option Point) (off unclosed : Bool) → (f : Found s text pad spot point off unclosed)
     → (HasGreatNumber f.behind → ⊥) → MeetsCode C8 s (Extension text) → ⊥
-great_same s text pad spot point off open f g m =
+great_same s text pad spot point off unclosed f g m =
     let P : List (List ℕ) → Type 0 = λ l. HasGreatNumber l in
     g (subst P (same_behind text pad m.0 f.behind m.1 f.names m.2) m.3)
 

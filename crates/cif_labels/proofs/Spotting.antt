@@ -3,8 +3,11 @@ use Rattle.std.proofs.Common.{◌≡◌, ◌⊎◌, inl, inr, ℕ, suc, ◌+◌,
 use Rattle.std.specs.Bool.{Decides}
 use Rattle.std.specs.List.{list_all}
 use Rattle.std.specs.Str.Parse.{digits_value}
-use Rattle.std.proofs.lemmas.Bool.Decides.{nat_tests}
-use Rattle.std.proofs.lemmas.Int.{ints, quot-rem}
+use mir.Syntax.{w64}
+use mir.Val.{to_z, of_z}
+use Rattle.std.specs.Int.RustNames.{unsigned_abs}
+use Rattle.std.proofs.lemmas.Bool.Decides.{Decides-eqb}
+use Rattle.std.proofs.lemmas.Int.{to_z-of_z, fits_signed_from_abs}
 use Rattle.std.proofs.lemmas.Slice.Eq.{bytes_eq-Decides}
 use Rattle.rx_text.specs.NumberInText.{is_digit}
 use Rattle.rx_text.specs.Role.{NamedRole}
@@ -99,3 +102,21 @@ great_words behind spot a b h d e =
           | inl w ↦ (let u = d.1 (h.0, w, h.2) in ap (λ (v : Bool). v || b) u)
           | inr w ↦ (let u = e.1 (h.0, w, h.2) in ap (λ (v : Bool). a || v) u ∙ right a)
         ]
+
+-- ---- machine words
+
+pub stands_word : (z v : ℤ) → unsigned_abs v ≤ 2 ^ 52 → StandsFor 400 z v → StandsFor 400 z (to_z w64 (of_z w64 v))
+stands_word z v h s =
+    let P : ℤ → Type 0 = λ n. StandsFor 400 z n in
+    subst P (sym (to_z-of_z w64 v (fits_signed_from_abs w64 v (omega (arith, h))))) s
+
+-- ---- short names
+
+pub short_name : (word : List ℕ) (t : Bool) → (length word == 0) ≡ false → length word ≤ 4 → t ≡ list_all (λ byte. is_capital byte || is_digit byte) word
+    → Decides t (IsShortName word)
+short_name [] t e l f = absurd cc
+short_name (b ∷ bs) t e l f = (λ h. record { some = λ z. cc; few = l; bytes = sym f ∙ h }, λ s. f ∙ s.bytes)
+
+pub no_short_empty : (word : List ℕ) → (length word == 0) ≡ true → IsShortName word → ⊥
+no_short_empty [] e s = s.some refl
+no_short_empty (b ∷ bs) e s = absurd (let z = (Decides-eqb (length (b ∷ bs)) 0).0 e in omega (arith, z))

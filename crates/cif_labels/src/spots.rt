@@ -2,6 +2,7 @@
 
 ghost use Rattle.std.specs.Prelude.{◌≡◌, ◌≤◌, ◌||◌, ℕ, ℤ, List, [], Some, None, length, drop, if◌then◌else◌};
 ghost use Rattle.std.specs.Bool.{Decides};
+ghost use Rattle.std.specs.List.{list_all};
 ghost use Rattle.rx_text.specs.NumberInText.{is_digit};
 ghost use Rattle.geom.specs.CifCommands.{IsShortName, WritesSigned, is_capital};
 ghost use Rattle.geom.specs.CifCodes.{IsTooGreat, HasGreatNumber};
@@ -75,7 +76,20 @@ fn last_layer(word: &[u8], more: &[u8]) -> Option<Layer>
 fn is_short_name(word: &[u8]) -> bool
     ensures { Decides result (IsShortName word.now) }
 {
-    !word.is_empty() && word.len() <= 4 && word.iter().all(|byte| is_name_byte(*byte))
+    if word.is_empty() {
+        return false;
+    }
+    if word.len() > 4 {
+        return false;
+    }
+    has_name_bytes(word)
+}
+
+/// Capital letters and digits alone.
+fn has_name_bytes(word: &[u8]) -> bool
+    ensures { result ≡ list_all (λ byte. is_capital byte || is_digit byte) word.now }
+{
+    word.iter().all(|byte| is_name_byte(*byte))
 }
 
 /// A capital letter or a digit.

@@ -219,8 +219,7 @@ pub mixed_second : (text : List ℕ) (one two : Digits) (t u r v : Bool) (z w : 
     → r ≡ false → Decides r (0 < a.n) → Decides v (0 < b.n) → Decides v (z <ℤ w)
 mixed_second text one two t u r v z w a b e f g d k =
     let p = sign_is t true a.n z e a.is in
-    let q = sign_is u false b.n w f b.is in
-    (
+    let q = sign_is u false b.n w f b.is in (
       λ h. (let l = k.0 h in omega (arith, ints, l, p, q)),
       λ h. elim (cases_lt 0 a.n) [
         | inl l ↦ absurd (let y : false ≡ true = sym g ∙ d.1 l in cc)

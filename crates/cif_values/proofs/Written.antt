@@ -58,8 +58,7 @@ number_whole m word from behind v o e some l c =
     let t : between word from behind ≡ xs = (let d : behind - from ≡ length xs = omega (arith, e, r) in ap (λ (n : ℕ). take n xs) d ∙ take_whole xs) in
     let all : list_all is_digit xs ≡ true =
     ap (list_all is_digit) (sym (take_whole xs) ∙ ap (λ (n : ℕ). take n xs) (sym r)) ∙ run_all is_digit xs in
-    let P : List ℕ → Type 0 = λ w. Counts m (digits_value 10 w) v in
-    (
+    let P : List ℕ → Type 0 = λ w. Counts m (digits_value 10 w) v in (
       digits_value 10 xs,
       record { some = λ z. some (let y = ap length z in omega (arith, e, r, y)); digits = all; value = refl },
       subst P t c,
@@ -70,8 +69,7 @@ number_whole m word from behind v o e some l c =
 pub minus_written : (m : ℕ) (word : List ℕ) (n v : ℕ) → 0 < length word → get_or word 0 0 ≡ 45 → WritesNumber n (drop 1 word) → Counts m n v
     → (z : ℤ) × WritesSigned z word × StandsFor m z (to_z w64 (of_z w64 (pos 0 -ℤ to_z w64 v)))
 minus_written m word n v l b w c =
-    let P : ℤ → Type 0 = λ z. StandsFor m (neg_ℤ (pos n)) z in
-    (
+    let P : ℤ → Type 0 = λ z. StandsFor m (neg_ℤ (pos n)) z in (
       neg_ℤ (pos n),
       inr (n, drop 1 word, refl, drop_first word 0 l ∙ ap (λ (x : ℕ). x ∷ drop 1 word) b, w),
       subst P (sym (minus_word v c.near)) (stands_minus m n v c),

@@ -84,7 +84,11 @@ fn order_of(text: &[u8], left: Digits, right: Digits) -> Ordering
     let count = left.count().max(right.count());
     let mut order = Ordering::Equal;
     for i in 0..count {
-        order = order_with(order, left.digit(text, i, count), right.digit(text, i, count));
+        order = order_with(
+            order,
+            left.digit(text, i, count),
+            right.digit(text, i, count),
+        );
     }
     order
 }

@@ -6,5 +6,5 @@ use Rattle.cif_labels.proofs.words.behind_spaces.Goals as goal
 pub loop-from-preserved : goal.loop-from-preserved
 loop-from-preserved c = record {
   within = omega (arith, c.loop-from-test.true);
-  same = pass_space c.args.text.now c.loop-from.from c.loop-from-test.true c.if-text-at-eq32.true ∙ c.loop-from.invariant.same;
+  same = pass_space c.args.text.now c.loop-from.from c.loop-from-test.true c.if-text-from-eq32.true ∙ c.loop-from.invariant.same;
 }
