@@ -1,10 +1,9 @@
 -- Names of layers behind `L`.
-use Rattle.std.proofs.Common.{◌≡◌, ℕ, ◌+◌, ◌-◌, ◌≤◌, ◌<◌, ◌==◌, nat_le, Bool, true, false, cond, not, ◌&&◌, ◌||◌, List, [], ◌∷◌, ◌++◌, length, take, drop, get_or, codes, refl, sym, ◌∙◌, ap, subst, append_assoc, arith, length-append}
+use Rattle.std.proofs.Common.{◌≡◌, ℕ, ◌+◌, ◌-◌, ◌<◌, Bool, true, false, cond, ◌&&◌, List, [], ◌∷◌, ◌++◌, length, take, drop, codes, refl, sym, ◌∙◌, ap, subst, append_assoc, arith}
 use Rattle.std.specs.List.{list_all, prefix_len}
 use Rattle.std.proofs.lemmas.Bool.Decides.{nat_tests}
 use Rattle.std.proofs.lemmas.List.{append-nil, take-append-drop, drop-drop, drop_at, take_at}
-use Rattle.rx_text.specs.NumberInText.{is_digit}
-use Rattle.geom.specs.CifCommands.{CifCommand, SetsLayer, Letters, SpellsParts, SpellsCommand, IsShortName, is_capital, is_cif_blank}
+use Rattle.geom.specs.CifCommands.{CifCommand, SetsLayer, Letters, SpellsParts, SpellsCommand, IsShortName, is_cif_blank}
 use Rattle.cif_syntax.specs.Ends.{between}
 use Rattle.cif_syntax.specs.Sentences.{IsCommandAt}
 use Rattle.cif_values.specs.Runs.{behind_blanks}

@@ -1,6 +1,6 @@
 -- The names of pads.
-use Rattle.std.proofs.Common.{◌≡◌, ℕ, Bool, true, false, List, [], ◌∷◌, ◌++◌, codes, Option, Some, None, is_some, bytes_eq, refl, sym, ◌∙◌}
-use Rattle.std.proofs.lemmas.List.{append-nil}
+use Rattle.std.proofs.Common.{◌≡◌, ℕ, true, false, List, ◌++◌, length, take, drop, codes, Option, Some, None, IfSome, bytes_eq, refl, sym, ◌∙◌, ap}
+use Rattle.std.proofs.lemmas.List.{append-nil, take-append-drop, take_at}
 use Rattle.std.proofs.lemmas.Slice.Eq.{bytes_eq-Decides}
 use Rattle.rx_text.specs.Name.{is_name}
 use Rattle.rx_text.specs.Role.{NamedRole, bears_name}
@@ -44,3 +44,19 @@ none_plain word a b d e f Phi2 h g = let z : false ≡ true = sym e ∙ (bytes_e
 none_plain word a b d e f Reset h g = let z : false ≡ true = sym f ∙ (bytes_eq-Decides (codes "RESET") word).1 g in cc
 none_plain word a b d e f Input h g = let z : true ≡ false = h in cc
 none_plain word a b d e f Output h g = let z : true ≡ false = h in cc
+
+-- ---- fronts of words
+
+pub front_is : (word front rest : List ℕ) → bytes_eq (take (length front) word) front ≡ true → rest ≡ drop (length front) word → front ++ rest ≡ word
+front_is word front rest h e =
+    ap (λ (l : List ℕ). l ++ rest) (sym ((bytes_eq-Decides (take (length front) word) front).0 h))
+    ∙ (ap (λ (l : List ℕ). take (length front) word ++ l) e ∙ take-append-drop (length front) word)
+
+pub no_front : (word front name : List ℕ) → bytes_eq (take (length front) word) front ≡ false → front ++ name ≡ word → ⊥
+no_front word front name h e =
+    let t : take (length front) word ≡ front = ap (take (length front)) (sym e) ∙ take_at front name (length front) refl in
+    let z : false ≡ true = sym h ∙ (bytes_eq-Decides (take (length front) word) front).1 t in cc
+
+pub if_some : {A : Type 0} (r : Option A) (P Q : A → Type 0) → IfSome r P → ((x : A) → r ≡ Some x → P x → Q x) → IfSome r Q
+if_some None P Q h f = tt
+if_some (Some x) P Q h f = f x refl h

@@ -1,6 +1,6 @@
 // The names of pads in labels.
 
-ghost use Rattle.std.specs.Prelude.{◌≡◌, true, false, ◌++◌, List, ℕ, IsNone, IfSome, bytes_eq};
+ghost use Rattle.std.specs.Prelude.{◌≡◌, true, false, ◌++◌, List, ℕ, IsNone, IfSome, bytes_eq, codes};
 ghost use Rattle.rx_text.specs.Name.{is_name};
 ghost use Rattle.rx_text.specs.declared.pad_name.Role.{Role};
 ghost use Rattle.rx_text.specs.Role.{NamedRole, bears_name};
@@ -13,15 +13,24 @@ pub fn pad_named(word: &[u8]) -> Option<PadName>
     ensures some { IfSome result (λ pad. IsPadName pad × (label_word pad ≡ word.now)) }
     ensures none { IsNone result → (pad : NamedRole) → IsPadName pad → label_word pad ≡ word.now → ⊥ }
 {
-    if let Some(role) = plain_role(word) {
-        return Some(PadName::plain(role));
+    match plain_role(word) {
+        Some(role) => Some(PadName::plain(role)),
+        None => bearing_pad(word),
     }
-    if let Some(name) = name_behind(word, b"IN:") {
-        return Some(PadName::input(name));
-    }
-    match name_behind(word, b"OUT:") {
-        Some(name) => Some(PadName::output(name)),
-        None => None,
+}
+
+/// The pad of this name, of those that bear a name of their own.
+fn bearing_pad(word: &[u8]) -> Option<PadName>
+    ensures some { IfSome result (λ pad. IsPadName pad × (label_word pad ≡ word.now)) }
+    ensures no_input { IsNone result → (name : List ℕ) → is_name name ≡ true → codes "IN:" ++ name ≡ word.now → ⊥ }
+    ensures no_output { IsNone result → (name : List ℕ) → is_name name ≡ true → codes "OUT:" ++ name ≡ word.now → ⊥ }
+{
+    match name_behind(word, b"IN:") {
+        Some(name) => Some(PadName::input(name)),
+        None => match name_behind(word, b"OUT:") {
+            Some(name) => Some(PadName::output(name)),
+            None => None,
+        },
     }
 }
 

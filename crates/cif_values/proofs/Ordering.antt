@@ -1,5 +1,5 @@
 -- The order of numbers, digit by digit.
-use Rattle.std.proofs.Common.{◌≡◌, ◌⊎◌, inl, inr, ℕ, zero, suc, ◌+◌, ◌*◌, ◌-◌, ◌≤◌, ◌<◌, nat_lt, Bool, true, false, cond, ◌&&◌, ℤ, pos, neg_ℤ, ◌<ℤ◌, List, [], ◌∷◌, length, take, drop, get_or, refl, sym, ◌∙◌, ap, subst, arith}
+use Rattle.std.proofs.Common.{◌≡◌, inl, inr, ℕ, ◌+◌, ◌*◌, ◌-◌, ◌≤◌, ◌<◌, nat_lt, Bool, true, false, cond, ◌&&◌, ℤ, pos, neg_ℤ, ◌<ℤ◌, List, [], ◌∷◌, length, drop, get_or, refl, sym, ◌∙◌, ap, subst, arith}
 use Rattle.std.specs.declared.cmp.Ordering.{Ordering}
 use Rattle.std.specs.declared.cmp.Ordering.TheVariants.{Less, Equal, Greater}
 use Rattle.std.specs.Ordering.{is_lt}
@@ -22,7 +22,7 @@ use Rattle.cif_values.specs.Runs.{behind_digits}
 use Rattle.cif_values.specs.Orders.{IsOrder, IsDigitRun, AreDigits, SignedDigits, digit_of}
 use Rattle.cif_values.proofs.Bytes.{digit_bounds, all_join}
 use Rattle.cif_values.proofs.Texts.{between_push, length_between, nothing_between}
-use Rattle.cif_values.proofs.Standing.{NumberAt, PlainAt, MinusAt, number_at}
+use Rattle.cif_values.proofs.Standing.{NumberAt, number_at}
 
 -- ---- digits
 

@@ -1,4 +1,4 @@
-use Rattle.std.proofs.Common.{ℕ, ◌∙◌, subst}
+use Rattle.std.proofs.Common.{◌∙◌, subst}
 use Rattle.geom.specs.CifCommands.{CifCommand, SpellsCommand}
 use Rattle.cif_kinds.proofs.Standing.{bytes_at}
 use Rattle.cif_kinds.proofs.laws.extensions_stand.Goals as goal

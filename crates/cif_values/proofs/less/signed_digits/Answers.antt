@@ -1,5 +1,5 @@
 -- Digits behind a sign, and without one.
-use Rattle.std.proofs.Common.{◌+◌, refl, arith}
+use Rattle.std.proofs.Common.{arith}
 use Rattle.cif_values.proofs.Ordering.{minus_digits, plain_digits}
 use Rattle.cif_values.proofs.less.signed_digits.Goals as goal
 use Rattle.cif_values.proofs.less.signed_digits.Goals.{else-at-text-via-then-at-text+else-text-at-eq45, else-at-text-via-else-at-text}

@@ -1,5 +1,4 @@
 -- Digits up to the end.
-use Rattle.std.proofs.Common.{arith}
 use Rattle.cif_values.proofs.Written.{none_here, none_whole, number_whole}
 use Rattle.cif_values.proofs.numbers.digits_alone.Goals as goal
 

@@ -1,6 +1,4 @@
 -- With a sign, and without one.
-use Rattle.std.proofs.Common.{◌<◌, length, arith}
-use Rattle.std.proofs.lemmas.Bool.Decides.{nat_tests}
 use Rattle.cif_values.proofs.Written.{minus_written, plain_written, some_word}
 use Rattle.cif_values.proofs.numbers.written_number.Goals as goal
 
