@@ -7,3 +7,8 @@ pub mod MoveCodes
 pub mod OpeningCodes
 pub mod PointCodes
 pub mod Scaling
+pub mod LayerCodes
+pub mod Ending
+pub mod Bending
+pub mod WireCodes
+pub mod Multiples

@@ -3,6 +3,8 @@
 
 mod kinds;
 mod laws;
+mod layers;
 
 pub use kinds::{CommandKind, command_kind};
-pub use laws::parts_stand;
+pub use laws::{extensions_stand, parts_stand};
+pub use layers::{layer_here, layer_named};

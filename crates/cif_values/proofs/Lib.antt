@@ -4,3 +4,5 @@ pub mod Counting
 pub mod Behind
 pub mod Standing
 pub mod NextParts
+pub mod Ordering
+pub mod Written

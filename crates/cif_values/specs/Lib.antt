@@ -4,3 +4,4 @@ pub mod Numbers
 pub mod Values
 -- Definitions that serve private contracts alone:
 pub mod Runs
+pub mod Orders
