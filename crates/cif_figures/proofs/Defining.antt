@@ -117,8 +117,7 @@ scale_found m (Some s) (Some q) found h e f =
     let c = few_nat s.times k.0.0 in
     let d = few_nat s.per k.0.1 in
     let t = positive s.times k.1.0 in
-    let u = positive s.per k.1.1 in
-    (
+    let u = positive s.per k.1.1 in (
       same_scale (ratio found) s a b,
       record { some_times = omega (arith, a, t); few_times = omega (arith, a, c); some_per = omega (arith, b, u); few_per = omega (arith, b, d) },
     )

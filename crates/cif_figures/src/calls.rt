@@ -55,8 +55,8 @@ pub fn steps_called(
     ensures steps { IfOk result (λ steps. (s : CifState) (end : ℕ) (c : CommandOf text.now first end kind.Calls) → scale_of s.opening ≡ ratio scale
         → chain ≡ part_chain (symbol_of s (symbol_in (command_of text.now first end kind.Calls c)))
         → Leads s (command_of text.now first end kind.Calls c) (λ place.
-            drawn_in s place (stepped_boxes steps.items (part_boxes (symbol_of s (symbol_in (command_of text.now first end kind.Calls c)))))
-            (chain_or_none (symbol_of s (symbol_in (command_of text.now first end kind.Calls c)))) s.opening)) }
+        drawn_in s place (stepped_boxes steps.items (part_boxes (symbol_of s (symbol_in (command_of text.now first end kind.Calls c)))))
+        (chain_or_none (symbol_of s (symbol_in (command_of text.now first end kind.Calls c)))) s.opening)) }
     ensures fault { IfErr result (λ fault. (s : CifState) (end : ℕ) (c : CommandOf text.now first end kind.Calls) → scale_of s.opening ≡ ratio scale
         → chain ≡ part_chain (symbol_of s (symbol_in (command_of text.now first end kind.Calls c)))
         → IsFaultOf s (command_of text.now first end kind.Calls c) fault) }

@@ -19,7 +19,12 @@ use geom::{CifCode, Label};
 ///
 /// The least code that it meets: C7 where the label's point is off the grid, C8 where a coordinate is too great, C12 where it is
 /// malformed or stands in a definition.
-pub fn label_put(text: &[u8], first: usize, end: usize, is_open: bool) -> Result<Option<Label>, CifCode>
+pub fn label_put(
+    text: &[u8],
+    first: usize,
+    end: usize,
+    is_open: bool,
+) -> Result<Option<Label>, CifCode>
     requires { CommandOf text.now first end kind.Extension }
     ensures label { IfOk result (λ found. (s : CifState) (c : CommandOf text.now first end kind.Extension) → Decides is_open (IsSome s.opening)
         → Leads s (command_of text.now first end kind.Extension c) (λ place. state_with s found)) }

@@ -2,7 +2,9 @@
 use Rattle.std.proofs.Common.{◌≡◌, ◌⊎◌, inl, inr, ℕ, zero, suc, ◌+◌, ◌*◌, ◌%◌, ◌^◌, ◌≤◌, ◌<◌, Bool, true, false, cond, not, ◌&&◌, ◌||◌, ℤ, pos, negsuc, neg_ℤ, ◌*ℤ◌, ◌+ℤ◌, ◌<ℤ◌, int_rem, int_div, List, [], ◌∷◌, ◌++◌, find, bytes_eq, Option, Some, None, IsSome, is_some, refl, sym, ◌∙◌, ap, subst, arith}
 use Rattle.std.specs.Bool.{Decides}
 use Rattle.std.specs.Int.RustNames.{unsigned_abs}
-use Rattle.std.proofs.lemmas.Int.{ints, quot-rem, rem_below}
+use mir.Syntax.{w64}
+use mir.Val.{to_z, of_z}
+use Rattle.std.proofs.lemmas.Int.{ints, quot-rem, rem_below, to_z-of_z, fits_signed_from_abs}
 use Rattle.std.proofs.lemmas.Slice.Eq.{bytes_eq-Decides}
 use Rattle.rx_text.specs.Role.{NamedRole}
 use Rattle.geom.specs.declared.layer.Layer.{Layer}
@@ -19,7 +21,7 @@ use Rattle.cif_values.specs.Numbers.{StandsFor}
 use Rattle.cif_codes.specs.Least.{IsLeastCode}
 use Rattle.cif_labels.specs.declared.spots.Spot.{Spot}
 use Rattle.cif_labels.specs.Words.{put_word}
-use Rattle.cif_labels.specs.Spots.{Reads, bearing, layer_in, point_by, point_of, IsSpotOf, OffTold}
+use Rattle.cif_labels.specs.Spots.{Reads, bearing, layer_in, point_by, point_of, IsSpotOf, OffTold, IsNearWord}
 use Rattle.cif_labels.proofs.Spotting.{same_number, no_number}
 
 -- ---- multiples of 200
@@ -64,7 +66,7 @@ on_divides z h = by (zero_or_not (int_rem ((pos 2 *ℤ z) *ℤ pos 1) (pos 400))
 
 -- ---- words
 
-behind_tail : List (List ℕ) → List (List ℕ)
+abbrev behind_tail : List (List ℕ) → List (List ℕ)
 behind_tail [] = []
 behind_tail (a ∷ []) = []
 behind_tail (a ∷ b ∷ words) = words
@@ -146,14 +148,14 @@ named_word Implant = refl
 
 found : {X : Type 0} (p : X → Bool) (xs : List X) (x : X) → find p xs ≡ Some x → p x ≡ true
 found p [] x e = absurd cc
-found {X} p (y ∷ ys) x e = by (p y) refl e
+found {X} p (y ∷ ys) x e = by (p y) refl e (λ f. found p ys x f)
   where
     inside : (a b : X) → ◌≡◌ {A = Option X} (Some a) (Some b) → a ≡ b
     inside a b e = cc
 
-    by : (t : Bool) → p y ≡ t → cond t (Some y) (find p ys) ≡ Some x → p x ≡ true
-    by true t e = ap p (sym (inside y x e)) ∙ t
-    by false t e = found p ys x e
+    by : (t : Bool) → p y ≡ t → cond t (Some y) (find p ys) ≡ Some x → (find p ys ≡ Some x → p x ≡ true) → p x ≡ true
+    by true t e more = ap p (sym (inside y x e)) ∙ t
+    by false t e more = more e
 
 -- a layer on which labels stand, by its name
 pub record Borne (word : List ℕ) (layer : Layer) : Type 0 where
@@ -420,3 +422,15 @@ bad_met s text pad behind n h = (pad, behind, n, h)
 -- none of these
 pub good : (s : CifState) (text : List ℕ) (label : Label) → (IsSome s.opening → ⊥) → IsLabel text label → MeetsCode C12 s (Extension text) → ⊥
 good s text label n l m = elim m.3 [ inl o ↦ n o | inr k ↦ k label l ]
+
+-- ---- near points
+
+pub near_point : (u v : Option ℤ) (p : Point) → point_by u v ≡ Some p → IsNearWord u → IsNearWord v → (unsigned_abs p.x ≤ 2 ^ 52) × (unsigned_abs p.y ≤ 2 ^ 52)
+near_point None v p e h k = absurd cc
+near_point (Some u) None p e h k = absurd cc
+near_point (Some u) (Some v) p e h k =
+    let P : Point → Type 0 = λ q. (unsigned_abs q.x ≤ 2 ^ 52) × (unsigned_abs q.y ≤ 2 ^ 52) in
+    subst P (some_is (record { x = u; y = v }) p e) (h, k)
+
+pub near_div : (v q : ℤ) → unsigned_abs v ≤ 2 ^ 52 → q ≡ int_div (to_z w64 (of_z w64 v)) (pos 200) → q ≡ int_div v (pos 200)
+near_div v q h e = e ∙ ap (λ (z : ℤ). int_div z (pos 200)) (to_z-of_z w64 v (fits_signed_from_abs w64 v (omega (arith, h))))

@@ -75,10 +75,9 @@ good_label s text pad behind spot p layer x y off opened odd great bad n h t o e
     let Q : Bool → Type 0 = λ q. OffTold (Some p) q in
     let moved : Found s text pad spot (Some p) false opened =
     record { behind = behind; names = n; spot_is = h; point_is = sym u; off_is = subst Q w.0 (subst P u t); open_is = o } in
-    let l = is_label s text pad spot p layer opened x y moved (few great behind d g) v a c in
-    (
+    let l = is_label s text pad spot p layer opened x y moved (few great behind d g) v a c in (
       least_none s text (not_off s text pad behind spot off opened odd n h t o e f)
-      (great_same s text pad spot (point_of spot) off opened k (few great behind d g))
-      (good s text (record { pad = pad; layer = layer; x = x; y = y }) (λ z. (let y1 : true ≡ false = sym (o.1 z) ∙ w.1 in cc)) l),
+          (great_same s text pad spot (point_of spot) off opened k (few great behind d g))
+          (good s text (record { pad = pad; layer = layer; x = x; y = y }) (λ z. (let y1 : true ≡ false = sym (o.1 z) ∙ w.1 in cc)) l),
       l,
     )

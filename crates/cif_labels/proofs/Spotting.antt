@@ -55,7 +55,7 @@ same_number word a b (inr h) (inr k) =
     tail [] = []
     tail (x ∷ xs) = xs
 
-no_number : (z : ℤ) → WritesSigned z [] → ⊥
+pub no_number : (z : ℤ) → WritesSigned z [] → ⊥
 no_number z (inl h) = h.2.some refl
 no_number z (inr h) = absurd (let e : [] ≡ 45 ∷ h.1 = h.3 in cc)
 
