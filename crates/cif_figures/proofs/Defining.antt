@@ -21,7 +21,7 @@ use Rattle.cif_kinds.specs.declared.kinds.CommandKind.TheVariants as kind
 use Rattle.cif_values.specs.Parts.{PartsAt}
 use Rattle.cif_figures.specs.Figures.{CommandOf, Leads, IsNumberFor}
 use Rattle.cif_figures.specs.Openings.{opened_state, scale_by}
-use Rattle.cif_figures.proofs.Kinds.{PartsLaw, is_opening, parts_of, spelled_of}
+use Rattle.cif_figures.proofs.ByKind.{PartsLaw, is_opening, parts_of, spelled_of}
 use Rattle.cif_figures.proofs.Simple.{leads_by}
 
 -- ---- a number and what stands for it

@@ -1,4 +1,4 @@
-pub mod Kinds
+pub mod ByKind
 pub mod Simple
 pub mod Defining
 pub mod Multiples

@@ -1,7 +1,7 @@
 -- The close.
 use Rattle.std.proofs.Common.{Some, refl}
 use Rattle.geom.specs.CifCommands.{Closes}
-use Rattle.cif_figures.proofs.Kinds.{is_close}
+use Rattle.cif_figures.proofs.ByKind.{is_close}
 use Rattle.cif_figures.proofs.Simple.{close_leads, least_there}
 use Rattle.cif_figures.proofs.definitions.definition_closed.Goals as goal
 

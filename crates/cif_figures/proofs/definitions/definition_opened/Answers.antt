@@ -5,7 +5,7 @@ use Rattle.geom.specs.CifCommands.{Opens}
 use Rattle.geom.specs.CifCodes.{is_defined}
 use Rattle.cif_kinds.specs.declared.kinds.CommandKind.TheVariants as kind
 use Rattle.cif_figures.specs.Figures.{symbol_in}
-use Rattle.cif_figures.proofs.Kinds.{is_opening, parts_of}
+use Rattle.cif_figures.proofs.ByKind.{is_opening, parts_of}
 use Rattle.cif_figures.proofs.Simple.{least_there}
 use Rattle.cif_figures.proofs.Defining.{opened_by, opening_leads}
 use Rattle.cif_figures.proofs.definitions.definition_opened.Goals as goal

@@ -4,7 +4,7 @@ use Rattle.std.specs.Int.RustNames.{unsigned_abs}
 use Rattle.geom.specs.CifCommands.{Opens}
 use Rattle.cif_kinds.specs.declared.kinds.CommandKind.TheVariants as kind
 use Rattle.cif_figures.specs.Figures.{symbol_in, IsNumberFor}
-use Rattle.cif_figures.proofs.Kinds.{is_opening, parts_of}
+use Rattle.cif_figures.proofs.ByKind.{is_opening, parts_of}
 use Rattle.cif_figures.proofs.Defining.{number_for}
 use Rattle.cif_figures.proofs.definitions.opened_number.Goals as goal
 

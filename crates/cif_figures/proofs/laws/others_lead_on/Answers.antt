@@ -1,5 +1,5 @@
 -- Empty commands and comments.
-use Rattle.cif_figures.proofs.Kinds.{empty_leads, comment_leads}
+use Rattle.cif_figures.proofs.ByKind.{empty_leads, comment_leads}
 use Rattle.cif_figures.proofs.laws.others_lead_on.Goals as goal
 
 pub returns-clause-empty : goal.returns-clause-empty

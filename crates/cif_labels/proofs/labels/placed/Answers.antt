@@ -24,10 +24,10 @@ returns-in-Some-layer-clause-label c = λ text behind s n h o.
     let p = c.in-Some.point in
     let u = sym c.point.ensures ∙ c.in-Some.is in
     let near = near_point c.args.spot.x c.args.spot.y p u c.requires.0 c.requires.1 in
-    good_label s text c.args.pad behind c.args.spot p c.in-Some-layer.layer c.lambdas.result c.lambdas-2.result c.is_off-off.result c.args.is_open
+    good_label s text c.args.pad behind c.args.spot p c.in-Some-layer.layer c.lambdas.result c.lambdas-in-Some-layer.result c.is_off-off.result c.args.is_open
     c.is_off_grid.result c.is_great.result c.is_bad.result n h c.is_off-off.ensures o c.is_off_grid.ensures c.if-is_off_grid.false (c.is_great.ensures behind h)
     c.if-is_great.false c.is_bad.ensures c.if-is_bad.false u c.in-Some-layer.is (near_div p.x c.lambdas.result near.0 c.lambdas.ensures)
-    (near_div p.y c.lambdas-2.result near.1 c.lambdas-2.ensures)
+    (near_div p.y c.lambdas-in-Some-layer.result near.1 c.lambdas-in-Some-layer.ensures)
 
 pub returns-in-None-layer-clause-fault : goal.returns-in-None-layer-clause-fault
 returns-in-None-layer-clause-fault c = λ text behind s n h o.
