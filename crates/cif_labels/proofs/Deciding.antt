@@ -434,3 +434,20 @@ near_point (Some u) (Some v) p e h k =
 
 pub near_div : (v q : ℤ) → unsigned_abs v ≤ 2 ^ 52 → q ≡ int_div (to_z w64 (of_z w64 v)) (pos 200) → q ≡ int_div v (pos 200)
 near_div v q h e = e ∙ ap (λ (z : ℤ). int_div z (pos 200)) (to_z-of_z w64 v (fits_signed_from_abs w64 v (omega (arith, h))))
+
+-- ---- quotients in machine words
+
+quot_bound : (v d r : ℤ) → d *ℤ pos 200 +ℤ r ≡ v → unsigned_abs r < 200 → unsigned_abs v ≤ 2 ^ 52 → unsigned_abs d ≤ 2 ^ 52
+quot_bound (pos v) (pos d) (pos r) e l h = omega (arith, ints, e, l, h)
+quot_bound (pos v) (pos d) (negsuc r) e l h = omega (arith, ints, e, l, h)
+quot_bound (pos v) (negsuc d) (pos r) e l h = omega (arith, ints, e, l, h)
+quot_bound (pos v) (negsuc d) (negsuc r) e l h = omega (arith, ints, e, l, h)
+quot_bound (negsuc v) (pos d) (pos r) e l h = omega (arith, ints, e, l, h)
+quot_bound (negsuc v) (pos d) (negsuc r) e l h = omega (arith, ints, e, l, h)
+quot_bound (negsuc v) (negsuc d) (pos r) e l h = omega (arith, ints, e, l, h)
+quot_bound (negsuc v) (negsuc d) (negsuc r) e l h = omega (arith, ints, e, l, h)
+
+pub quot_word : (v q : ℤ) → unsigned_abs v ≤ 2 ^ 52 → q ≡ int_div v (pos 200) → to_z w64 (of_z w64 q) ≡ int_div v (pos 200)
+quot_word v q h e =
+    let b = quot_bound v (int_div v (pos 200)) (int_rem v (pos 200)) (quot-rem v (pos 200)) (rem_below v (pos 200) (omega arith)) h in
+    ap (λ (z : ℤ). to_z w64 (of_z w64 z)) e ∙ to_z-of_z w64 (int_div v (pos 200)) (fits_signed_from_abs w64 (int_div v (pos 200)) (omega (arith, b)))

@@ -31,7 +31,7 @@ pub fn label_of(text: &[u8], is_open: bool) -> Result<Option<Label>, CifCode>
     ensures fault { IfErr result (λ code. (s : CifState) → Decides is_open (IsSome s.opening) → IsLeastCode s (Extension text.now) (Some code)) }
 {
     match pad_here(text) {
-        Some((pad, behind)) => match placed(pad, spot_here(text, behind), is_open) {
+        Some(found) => match placed(found.pad, spot_here(text, found.behind), is_open) {
             Ok(label) => Ok(Some(label)),
             Err(code) => Err(code),
         },
@@ -39,10 +39,17 @@ pub fn label_of(text: &[u8], is_open: bool) -> Result<Option<Label>, CifCode>
     }
 }
 
-/// The pad that the text names behind `94`, and the place behind its name.
-fn pad_here(text: &[u8]) -> Option<(PadName, usize)>
-    ensures some { IfSome result (λ found. NamesPad text.now found.0 (label_words (drop found.1 text.now))) }
-    ensures within { IfSome result (λ found. found.1 ≤ length text.now) }
+/// A pad that a text names, and the place behind its name.
+#[derive(Clone, Copy, Debug, PartialEq, Eq)]
+struct NamedPad {
+    pad: PadName,
+    behind: usize,
+}
+
+/// The pad that the text names behind `94`.
+fn pad_here(text: &[u8]) -> Option<NamedPad>
+    ensures some { IfSome result (λ found. NamesPad text.now found.pad (label_words (drop found.behind text.now))) }
+    ensures within { IfSome result (λ found. found.behind ≤ length text.now) }
     ensures none { IsNone result → (pad : NamedRole) (behind : List (List ℕ)) → NamesPad text.now pad behind → ⊥ }
 {
     let (command, next) = word_here(text, 0);
@@ -51,7 +58,7 @@ fn pad_here(text: &[u8]) -> Option<(PadName, usize)>
     }
     let (name, behind) = word_here(text, next);
     match pad_named(name) {
-        Some(pad) => Some((pad, behind)),
+        Some(pad) => Some(NamedPad { pad, behind }),
         None => None,
     }
 }
