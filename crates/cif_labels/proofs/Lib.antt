@@ -1,0 +1,6 @@
+pub mod Cuts
+pub mod Behind
+pub mod PadNames
+pub mod Spotting
+pub mod Deciding
+pub mod Placing
