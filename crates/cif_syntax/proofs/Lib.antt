@@ -11,3 +11,4 @@ pub mod ZeroStands
 pub mod Following
 pub mod Breaking
 pub mod Sorting
+pub mod Apart
