@@ -12,5 +12,13 @@ pub mod WrittenBoxes
 pub mod TileBoxes
 pub mod PlanSquares
 pub mod WrittenRows
+pub mod PadNames
 pub mod ArrayLabels
 pub mod ArrayFiles
+pub mod Members
+pub mod Levels
+pub mod AreaBounds
+pub mod BoxSides
+pub mod TreeSquares
+pub mod TreeLabels
+pub mod TreeFiles

@@ -4,6 +4,7 @@ pub mod Codes
 pub mod StatusText
 pub mod Behaviour
 pub mod Endings
+pub mod Sizes
 pub mod Files
 pub mod Compiling
 pub mod Simulating

@@ -17,6 +17,7 @@ mod pla;
 mod sim;
 mod status;
 mod top;
+mod tree;
 mod words;
 
 pub use laws::{
