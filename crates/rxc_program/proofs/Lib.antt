@@ -19,6 +19,7 @@ pub mod Members
 pub mod Levels
 pub mod AreaBounds
 pub mod BoxSides
+pub mod TreeCells
 pub mod TreeSquares
 pub mod TreeLabels
 pub mod TreeFiles

@@ -35,6 +35,8 @@ mod rows;
 mod sim_rows;
 #[cfg(test)]
 mod tests;
+#[cfg(test)]
+mod tree_rows;
 
 use rx_io::{Sink, Source, StdSink, StdSource};
 use std::alloc::{AllocError, Global};
