@@ -1,5 +1,5 @@
 -- Chips that draw the blocks of a tree's layout, with one kind for all blocks of the same squares.
-use Rattle.std.specs.Prelude.{◌≡◌, ◌≢◌, ◌↔◌, ⊤, ⊥, ℕ, ◌+◌, ◌-◌, ◌*◌, ◌<◌, ◌⊎◌, ℤ, pos, ◌≤ℤ◌, Option, Some, None, List, [], ◌∷◌, ◌++◌, length, slice_get, All, AllPairs}
+use Rattle.std.specs.Prelude.{◌≡◌, ◌≢◌, ◌↔◌, ⊤, ℕ, ◌+◌, ◌-◌, ◌*◌, ◌<◌, ◌⊎◌, ℤ, pos, ◌≤ℤ◌, Option, Some, None, List, [], ◌∷◌, ◌++◌, length, slice_get, All, AllPairs}
 use Rattle.geom.specs.declared.layer.Layer.{Layer}
 use Rattle.geom.specs.declared.chip.Call.{Call}
 use Rattle.geom.specs.Squares.{BoxShape, Covered}

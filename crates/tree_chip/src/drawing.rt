@@ -1,6 +1,6 @@
 // The chip of a tree's layout.
 
-ghost use Rattle.std.specs.Prelude.{◌≡◌, ◌↔◌, ◌<◌, ◌≤◌, ◌^◌, ◌++◌, ℤ, length, get_or, All, IfOk, OnOk};
+ghost use Rattle.std.specs.Prelude.{◌≡◌, ◌↔◌, ◌+◌, ◌<◌, ◌≤◌, ◌^◌, ◌++◌, ℤ, length, get_or, All, IfOk, OnOk};
 ghost use Rattle.geom.specs.declared.layer.Layer.{Layer};
 ghost use Rattle.geom.specs.Chips.{ChipCovers};
 ghost use Rattle.star_normal.specs.Tables.{whole};
@@ -45,22 +45,15 @@ pub fn chip(alloc: Global, blocks: &Blocks, tree: &Tree, spec: &Spec) -> Result<
     blocks_are_modules();
     tiles_keep_inside();
     merged_once();
+    let counts = Counts::of(tree, spec);
     let labels = tree_labels(alloc, blocks, tree, spec)?;
     let places = blocks.kinds(alloc)?;
     let mut kinds = Vec::new(alloc);
     let cells = cell_numbers(alloc, tree, spec, &mut kinds)?;
     let wires = wire_numbers(alloc, tree, spec, &places, &mut kinds)?;
-    let width = block_width(tree, spec);
+    let width = 14 * block_side(counts);
     let calls = calls(alloc, blocks, &places, &wires, &cells, width)?;
     Ok(Chip::new(kinds, calls, labels))
-}
-
-/// How wide and high a block is, in lambda.
-fn block_width(tree: &Tree, spec: &Spec) -> u32
-    ensures width { result ≡ block_width tree.now spec.now }
-    ensures few { result ≤ 9800 }
-{
-    14 * block_side(Counts::of(tree, spec))
 }
 
 /// The calls of the blocks that stand at these places, row by row.
