@@ -18,6 +18,11 @@ pub record AreDifferent (kinds : List (List BoxShape)) : Type 0 where
   pub differ : AllPairs (λ a b. a ≢ b) kinds
   pub some : All (λ boxes. boxes ≢ []) kinds
 
+-- The boxes are the kind of this number, and stand behind the kinds where they were none of them.
+pub record IsKindNumber (old : List (List BoxShape)) (boxes : List BoxShape) (number : ℕ) (new : List (List BoxShape)) : Type 0 where
+  pub kind : slice_get new number ≡ Some boxes
+  pub grown : (new ≡ old) ⊎ ((new ≡ old ++ boxes ∷ []) × (number ≡ length old) × All (λ kind. kind ≢ boxes) old)
+
 -- The kinds are the old ones, or there is one more, which has this number and is none of them.
 pub record GainsKind (old new : List (List BoxShape)) (number : Option ℕ) : Type 0 where
   pub boxes : List BoxShape
@@ -42,7 +47,8 @@ wire_kinds =
 
 -- Behind the kinds that there were each of so many blocks of bundles alone that stand among the places has the number of the kind
 -- that draws it, and each further kind has such a block.
-pub record AreWireNumbers (tree : TreeTable) (tables : Tables) (places : List BlockKind) (old kinds : List (List BoxShape)) (numbers : List (Option ℕ))
+pub record AreWireNumbers (tree : TreeTable) (tables : Tables) (places : List BlockKind) (old kinds : List (List BoxShape))
+    (numbers : List (Option ℕ))
     (n : ℕ) : Type 0 where
   pub size : length numbers ≡ n
   pub more : List (List BoxShape)

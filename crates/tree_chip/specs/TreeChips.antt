@@ -68,7 +68,8 @@ SameSquares a b = (layer : Layer) (x y : ℤ) → Covers a layer x y ↔ Covers 
 -- No call stands at the place of a block without squares.
 abbrev pub BareBlocksStayOut : Sheet → TreeTable → Tables → List Call → Type 0
 BareBlocksStayOut sheet tree tables calls = (row col : ℕ) (call : Call) → row < sheet.rows → col < sheet.cols
-    → HasNoSquares (block_plan tree tables (block_at sheet row col)) → Among calls call → StandsAt (block_width tree tables) sheet.rows row col call → ⊥
+    → HasNoSquares (block_plan tree tables (block_at sheet row col)) → Among calls call → StandsAt (block_width tree tables) sheet.rows row col
+    call → ⊥
 
 -- The calls of blocks of the same squares have one kind.
 abbrev pub SharesKinds : Sheet → TreeTable → Tables → ChipShape → Type 0
@@ -94,10 +95,3 @@ pub record IsTreeChip (sheet : Sheet) (tree : TreeTable) (tables : Tables) (chip
 abbrev pub KindsAreBlocks : ℕ → ChipShape → Type 0
 KindsAreBlocks width chip =
     All (All (λ b. (pos 0 ≤ℤ b.x1) × (b.x2 ≤ℤ pos width) × (pos 0 ≤ℤ b.y1) × (b.y2 ≤ℤ pos width))) chip.kinds
-
--- ---- numbers of kinds
-
--- The boxes are the kind of this number, and stand behind the kinds where they were none of them.
-pub record IsKindNumber (old : List (List BoxShape)) (boxes : List BoxShape) (number : ℕ) (new : List (List BoxShape)) : Type 0 where
-  pub kind : slice_get new number ≡ Some boxes
-  pub grown : (new ≡ old) ⊎ ((new ≡ old ++ boxes ∷ []) × (number ≡ length old) × All (λ kind. kind ≢ boxes) old)

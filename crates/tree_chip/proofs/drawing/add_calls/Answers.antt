@@ -15,5 +15,7 @@ loop-col-preserved c =
     let number : ℕ → Option ℕ = λ col. number_at c.args.wires.now c.args.cells.now (get_or c.args.places.now (line.first + col) Empty) in
     let f : ℕ → List Call = λ col. call_at c.args.width line.south col (number col) in
     let col = c.loop-col.col in
-    extends c.args.calls.now.items c.loop-col.calls.items c.add_call.new.calls.items (flat_map f (range_with_len 0 col)) (f col) (flat_map f (range_with_len 0 (col + 1)))
-    c.loop-col.invariant (c.in_ok-add_call.ensures ∙ ap (λ o. c.loop-col.calls.items ++ call_at c.args.width line.south col o) c.number_at.ensures) (pieces_more f col)
+    extends c.args.calls.now.items c.loop-col.calls.items c.add_call.new.calls.items (flat_map f (range_with_len 0 col)) (f col)
+    (flat_map f (range_with_len 0 (col + 1)))
+    c.loop-col.invariant (c.in_ok-add_call.ensures ∙ ap (λ o. c.loop-col.calls.items ++ call_at c.args.width line.south col o)
+    c.number_at-number.ensures) (pieces_more f col)
