@@ -17,7 +17,6 @@ pub mod ArrayLabels
 pub mod ArrayFiles
 pub mod Members
 pub mod Levels
-pub mod AreaBounds
 pub mod BoxSides
 pub mod TreeCells
 pub mod TreeSquares

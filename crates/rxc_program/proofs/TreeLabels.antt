@@ -1,5 +1,5 @@
 -- The labels of a tree's layout bear names of pads, and stand on poly that is drawn.
-use Rattle.std.proofs.Common.{◌≡◌, inl, inr, ℕ, ◌+◌, true, ℤ, List, [], ◌∷◌, All, map, refl, subst, arith}
+use Rattle.std.proofs.Common.{◌≡◌, inl, inr, ◌+◌, true, Some, List, [], ◌∷◌, All, map, refl, subst, arith}
 use Rattle.std.specs.List.{AllByRecursion}
 use Rattle.rx_text.specs.Name.{is_name}
 use Rattle.rx_text.specs.declared.pad_name.Role.TheVariants.{Input, Output}
@@ -50,5 +50,5 @@ pub poly_is_drawn : (Drawn : Drawing) (labels : List Label) (circuit : Circuit) 
     → Among labels label → label.layer ≡ Poly → Drawn Poly label.x label.y
 poly_is_drawn Drawn labels circuit stands label among poly =
     let net = stands.sound.on_nets label among in
-    let there = subst (λ layer. stands.net layer label.x label.y ≡ _) poly net.1 in
+    let there = subst (λ layer. stands.net layer label.x label.y ≡ Some net.0) poly net.1 in
     stands.nets.conducts Poly label.x label.y net.0 there

@@ -12,7 +12,7 @@ use Rattle.switch_net.specs.Circuit.{Circuit}
 use Rattle.switch_net.specs.Recognition.{HasPads, Recognises, ShowsSurely}
 use Rattle.net_text.specs.NetworkText.{IsNetworkText}
 use Rattle.nmos_model.specs.Networks.{StandsFor}
-use Rattle.rxc_program.specs.Sizes.{blocks, tree_area_bound, tree_side_bound}
+use Rattle.report_text.specs.Sizes.{blocks, tree_area_bound, tree_side_bound}
 
 -- the kinds of files that are written for a specification
 pub data FileKind : Type 0 where

@@ -4,7 +4,6 @@ pub mod Codes
 pub mod StatusText
 pub mod Behaviour
 pub mod Endings
-pub mod Sizes
 pub mod Files
 pub mod Compiling
 pub mod Simulating

@@ -26,6 +26,7 @@ use cif_write::{chip_texts_draw, write_cif};
 use geom::Chip;
 use nmos_model::laws::equal_drawings_are_alike;
 use nor_net::to_switch;
+use report_text::sides_bound_the_area;
 use rx_io::{Sink, Source};
 use rx_lang::Spec;
 use rx_syntax::laws::accepted_names_are_names;
@@ -86,6 +87,7 @@ fn layout_chip(alloc: Global, spec: &Spec) -> Result<Chip, NoMemory>
     tables_have_the_leaves_of_their_trees();
     trees_recognise();
     rectangles_exist();
+    sides_bound_the_area();
     chip_texts_draw();
     equal_drawings_are_alike::<DrawnTree, WrittenChip>();
     let tree = normalize(alloc, spec)?;

@@ -4,7 +4,7 @@ use Rattle.rx_lang.specs.Tables.{specification}
 use Rattle.star_normal.specs.Tables.{IsTree}
 use Rattle.block_grid.specs.Sheets.{IsSheet}
 use Rattle.tree_chip.specs.TreePlans.{IsSheetOf}
-use Rattle.rxc_program.specs.Sizes.{blocks, leaves}
+use Rattle.report_text.specs.Sizes.{blocks, leaves}
 use Rattle.rxc_program.proofs.Levels.{levels_exist}
 use Rattle.rxc_program.proofs.TreeCells.{sheet_of}
 use Rattle.rxc_program.proofs.TreeFiles.{tree_files}
@@ -35,7 +35,7 @@ returns c =
     let level = levels_exist (blocks (specification tables)) few in
     let room : IsLevel (length tree.nodes + 1) level.0 = subst (λ n. IsLevel n level.0) (sym same) level.1 in
     tree_files sheet tree tables c.requires.tables c.requires.lines c.requires.outputs c.chip_texts_draw.ensures c.rectangles_exist.ensures
-    level.0 level.1 level.2 some (made.rows level.0 room) (made.cols level.0 room)
+    c.sides_bound_the_area.ensures level.0 level.1 level.2 some (made.rows level.0 room) (made.cols level.0 room)
     (c.trees_recognise.ensures sheet tree tables is_tree c.requires.tables c.in_ok-tree.ensures.symbols is_sheet c.in_ok-cells_recognise.ensures)
     (λ chip. c.equal_drawings_are_alike.ensures.networks (record { blocks = sheet; tree = tree; spec = tables }) (record { chip = chip }))
     c.chip.result c.chip.ensures.blocks c.chip.ensures.squares c.chip.ensures.few c.chip.ensures.within c.chip.ensures.labels

@@ -1,7 +1,7 @@
--- How large a specification is, and how large the layout of its tree may be. Lengths are in lambda.
+-- How large a specification is, and how large its layouts are or may be. Lengths are in lambda.
 use Rattle.std.specs.Prelude.{ℕ, ◌+◌, ◌*◌, length}
 use Rattle.rx_lang.specs.Specification.{Specification}
-use Rattle.rx_lang.specs.Positions.{occurrence_symbols}
+use Rattle.rx_lang.specs.Positions.{array_columns, array_rows, occurrence_symbols}
 use Rattle.rx_lang.specs.Squares.{side_bound}
 
 -- how many symbols stand in the expressions, copies under counted repeats counted
@@ -27,3 +27,7 @@ tree_side_bound spec level = side_bound level * block_width spec
 -- the most of its area
 abbrev pub tree_area_bound : Specification → ℕ
 tree_area_bound spec = 361267200 * (wires spec * wires spec) * leaves spec
+
+-- the area of an array with t terms, whose tiles are 14 wide and high
+abbrev pub array_area : Specification → ℕ → ℕ
+array_area spec t = 196 * (array_rows spec t * array_columns spec)

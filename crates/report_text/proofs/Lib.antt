@@ -1,0 +1,2 @@
+pub mod AreaBounds
+pub mod LeafTotals

@@ -1,0 +1,3 @@
+-- Definitions that public contracts cite:
+pub mod Sizes
+pub mod Reports
