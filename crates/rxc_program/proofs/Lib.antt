@@ -1,5 +1,6 @@
 pub mod Pieces
 pub mod Names
+pub mod LastWord
 pub mod Endings
 pub mod DrivenJudged
 pub mod Judged

@@ -42,7 +42,7 @@ use Rattle.rxc_program.proofs.WrittenBoxes.{written_boxes_cover}
 -- a number from 0 up to the side of a layout can be written
 near : (side lines : ℕ) (v : ℤ) → side ≤ 700 → lines ≤ 2048 → pos 0 ≤ℤ v → v <ℤ pos (14 * (side * lines)) → IsWritableEdge v
 near side lines v small few low high =
-    let most : side * lines ≤ 1433600 = mul-le-mul {n₁ = side} {m₁ = 700} {n₂ = lines} {m₂ = 2048} small few in
+    let most : side * lines ≤ 1433600 = mul-le-mul {n₁ = side} {m₁ = lines} {n₂ = 700} {m₂ = 2048} small few in
     record { from = omega (arith, ints, low); to = omega (arith, ints, high, most) }
 
 -- so can a place
@@ -50,7 +50,7 @@ place_near : (side lines i : ℕ) (v : ℤ) → side ≤ 700 → lines ≤ 2048 
 place_near side lines i v small few below is =
     let wide : 14 * side ≤ 9800 = omega (arith, small) in
     let far : i ≤ 2048 = omega (arith, few, below) in
-    let most : (14 * side) * i ≤ 20070400 = mul-le-mul {n₁ = 14 * side} {m₁ = 9800} {n₂ = i} {m₂ = 2048} wide far in
+    let most : (14 * side) * i ≤ 20070400 = mul-le-mul {n₁ = 14 * side} {m₁ = i} {n₂ = 9800} {m₂ = 2048} wide far in
     record { from = omega (arith, ints, is); to = omega (arith, ints, is, most) }
 
 -- where some square is covered there are boxes

@@ -13,7 +13,7 @@ use Rattle.rxc_program.proofs.tree.layout_chip.Goals as goal
 -- src/tree.rt
 pub chip-requires-clause-sheet : goal.chip-requires-clause-sheet
 chip-requires-clause-sheet c =
-    sheet_of c.in_ok-tree.tree c.in_ok-blocks.blocks (subst IsSheet c.blocks.view_is c.blocks.invariant) c.in_ok-blocks.ensures.nodes
+    sheet_of c.in_ok-tree.tree c.in_ok-blocks.blocks (subst IsSheet c.blocks-2.view_is c.blocks-2.invariant) c.in_ok-blocks.ensures.nodes
     c.in_ok-blocks.ensures.edges
 
 pub returns : goal.returns
@@ -23,7 +23,7 @@ returns c =
     let sheet = c.in_ok-blocks.blocks in
     let made = c.in_ok-blocks.ensures in
     let is_tree : IsTree tree = subst IsTree c.tree.view_is c.tree.invariant in
-    let is_sheet : IsSheetOf tree sheet = sheet_of tree sheet (subst IsSheet c.blocks.view_is c.blocks.invariant) made.nodes made.edges in
+    let is_sheet : IsSheetOf tree sheet = sheet_of tree sheet (subst IsSheet c.blocks-2.view_is c.blocks-2.invariant) made.nodes made.edges in
     let nodes = c.tables_have_the_leaves_of_their_trees.ensures.nodes tree is_tree in
     let counted = c.tables_have_the_leaves_of_their_trees.ensures.leaves tree is_tree in
     let named = ap length c.in_ok-tree.ensures.leaves in

@@ -1,11 +1,11 @@
+use Rattle.std.proofs.Common.{arith}
+use Rattle.std.proofs.lemmas.Grind.{common_steps}
+use Rattle.rxc_program.proofs.LastWord.{last_word}
+use Rattle.rxc_program.specs.declared.words.Command.TheVariants.{Sim}
 use Rattle.rxc_program.proofs.words.named_command.Goals as goal
 
 -- src/words.rt
 pub returns-in-len1-up-4-clause-wrong : goal.returns-in-len1-up-4-clause-wrong
 returns-in-len1-up-4-clause-wrong c =
-    let a = c.in-len1-up in
-    let b = c.first-item-4 in
-    let d = c.is-4 in
-    let e = c.if-is-4 in
-    let f = c.alone-in-len1-up-4 in
-    ?
+    last_word Sim c.args.words.now c.first-item-4.result c.alone-in-len1-up-4.result _ (omega arith) c.first-item-4.is (c.if-is-4.ensures tt)
+    c.alone-in-len1-up-4.ensures (grind (arith, common_steps))
