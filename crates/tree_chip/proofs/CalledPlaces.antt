@@ -1,5 +1,5 @@
 -- The calls of rows of blocks, of which each has the number of its kind or none.
-use Rattle.std.proofs.Common.{◌≡◌, ◌≢◌, ◌⊎◌, inl, inr, ℕ, zero, suc, ◌+◌, ◌-◌, ◌*◌, ◌<◌, ◌≤◌, ℤ, pos, Option, Some, None, List, [], ◌∷◌, ◌++◌, length, get_or, All, refl, sym, ap, subst, ◌∙◌, arith}
+use Rattle.std.proofs.Common.{◌≡◌, ◌≢◌, inl, inr, ℕ, zero, suc, ◌+◌, ◌-◌, ◌*◌, ◌<◌, ◌≤◌, pos, Option, Some, None, List, [], ◌∷◌, ◌++◌, length, get_or, refl, sym, ap, subst, ◌∙◌, arith}
 use Rattle.std.specs.Prelude.{AllPairs, flat_map}
 use Rattle.std.specs.List.{range_with_len}
 use Rattle.std.proofs.lemmas.Int.{ints}
@@ -7,7 +7,7 @@ use Rattle.std.proofs.lemmas.Bool.{cases_eq}
 use Rattle.geom.specs.declared.chip.Call.{Call}
 use Rattle.geom.specs.Rows.{Among}
 use Rattle.tree_chip.proofs.Members.{among_left, among_right, among_append}
-use Rattle.tree_chip.specs.KindNumbers.{call_at, calls_in_row, calls_in_rows}
+use Rattle.tree_chip.specs.KindNumbers.{call_at, calls_in_row}
 
 -- ---- lists
 

@@ -1,9 +1,9 @@
 -- Chips that call the blocks of a layout have its squares.
-use Rattle.std.proofs.Common.{◌≡◌, ◌⊎◌, ◌↔◌, inl, inr, ℕ, ◌+◌, ◌-◌, ◌*◌, ◌/◌, ◌%◌, ◌<◌, ℤ, pos, ◌-ℤ◌, List, [], ◌∷◌, slice_get, Some, refl, sym, ap, subst, ◌∙◌, arith}
+use Rattle.std.proofs.Common.{◌≡◌, ◌↔◌, inl, inr, ℕ, ◌+◌, ◌-◌, ◌*◌, ◌/◌, ◌%◌, ◌<◌, ℤ, pos, ◌-ℤ◌, List, [], ◌∷◌, Some, refl, sym, ap, subst, ◌∙◌, arith}
 use Rattle.std.proofs.lemmas.Int.{ints}
 use Rattle.geom.specs.declared.layer.Layer.{Layer}
 use Rattle.geom.specs.declared.chip.Call.{Call}
-use Rattle.geom.specs.Squares.{BoxShape, Covered}
+use Rattle.geom.specs.Squares.{Covered}
 use Rattle.geom.specs.Rows.{Among}
 use Rattle.geom.specs.Chips.{ChipShape, Calls, CalledAt, ChipCovers}
 use Rattle.rx_lang.specs.Tables.{Tables}
@@ -15,7 +15,7 @@ use Rattle.cell_network.specs.Parts.{counts_of}
 use Rattle.node_cell.specs.Blocks.{block_side}
 use Rattle.node_cell.specs.BlockTiles.{block_plan, block_tile}
 use Rattle.tree_chip.specs.TreePlans.{tree_plan, tree_tile}
-use Rattle.tree_chip.specs.TreeChips.{block_width, StandsAt, IsCallOf, IsTreeChip}
+use Rattle.tree_chip.specs.TreeChips.{block_width, StandsAt, IsTreeChip}
 use Rattle.tree_chip.proofs.BlockRows.{row_within, block_of, rest_of, is_block, is_rest, whole_of, south_of, width_times, width_turned}
 
 some_is : {X : Type 0} (o : X) (p : X) → ◌≡◌ {A = _} (Some o) (Some p) → o ≡ p

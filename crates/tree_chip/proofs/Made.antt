@@ -1,11 +1,10 @@
 -- The numbers of all blocks make a chip of the layout.
-use Rattle.std.proofs.Common.{◌≡◌, ◌≢◌, ◌⊎◌, inl, inr, ℕ, zero, suc, ◌+◌, ◌-◌, ◌*◌, ◌/◌, ◌%◌, ◌<◌, ◌≤◌, pos, Option, Some, None, List, [], ◌∷◌, ◌++◌, All, length, get_or, slice_get, refl, sym, ap, subst, ◌∙◌, arith}
+use Rattle.std.proofs.Common.{◌≡◌, inl, inr, ℕ, zero, suc, ◌+◌, ◌-◌, ◌*◌, ◌/◌, ◌%◌, ◌<◌, ◌≤◌, pos, Option, Some, None, List, [], ◌∷◌, All, length, get_or, slice_get, refl, sym, ap, subst, ◌∙◌, arith}
 use Rattle.std.proofs.lemmas.Bool.{cases_lt}
-use Rattle.std.proofs.lemmas.Nat.{mul-add-lt, div-add-mod', div_below, mod_below}
+use Rattle.std.proofs.lemmas.Nat.{div-add-mod', div_below, mod_below}
 use Rattle.std.proofs.lemmas.Option.{slice_get-get_or}
 use Rattle.geom.specs.declared.chip.Call.{Call}
 use Rattle.geom.specs.declared.chip.Label.{Label}
-use Rattle.geom.specs.Squares.{BoxShape}
 use Rattle.geom.specs.Rows.{Among}
 use Rattle.geom.specs.Chips.{ChipShape}
 use Rattle.geom.specs.Merged.{MergedOnce}
@@ -13,21 +12,18 @@ use Rattle.rx_lang.specs.Tables.{Tables}
 use Rattle.star_normal.specs.Tables.{TreeTable}
 use Rattle.block_grid.specs.declared.kind.Turn.TheVariants.{NorthEast, NorthWest, SouthEast, SouthWest}
 use Rattle.block_grid.specs.declared.kind.BlockKind.{BlockKind}
-use Rattle.block_grid.specs.declared.kind.BlockKind.TheVariants.{Empty, Horizontal, Vertical, Cross, Corner, Node, Frame}
+use Rattle.block_grid.specs.declared.kind.BlockKind.TheVariants.{Empty}
 use Rattle.block_grid.specs.Sheets.{Sheet, block_at}
 use Rattle.block_grid.specs.Raster.{AreKinds}
-use Rattle.cell_network.specs.Parts.{counts_of}
-use Rattle.node_cell.specs.Blocks.{block_side}
 use Rattle.node_cell.specs.BlockTiles.{block_plan}
 use Rattle.tree_chip.specs.TreePlans.{IsSheetOf}
 use Rattle.tree_chip.specs.TreeChips.{IsNumbered, block_width, IsTreeChip, IsCalled, CallsBlock}
 use Rattle.tree_chip.specs.KindNumbers.{AreCellNumbers, AreWireNumbers, cell_kind, wire_kinds, number_at, calls_in_rows, IsCellWithin}
-use Rattle.tree_chip.proofs.Members.{among_at}
 use Rattle.tree_chip.proofs.TreeEdges.{IsOrder}
 use Rattle.tree_chip.proofs.OnSheet.{IsKindOf, cell, empty, horizontal, vertical, cross, corner, kind_known, is_within, cell_of, frame_of, node_placed}
 use Rattle.tree_chip.proofs.Numbering.{Kinds, still_numbered}
 use Rattle.tree_chip.proofs.SharedKinds.{in_runs, bare_blocks, shares_kinds}
-use Rattle.tree_chip.proofs.CalledPlaces.{Puts, PutsIn, all_calls, all_distinct, all_called, related_pairs}
+use Rattle.tree_chip.proofs.CalledPlaces.{all_calls, all_distinct, all_called, related_pairs}
 
 some_is : {X : Type 0} (o : X) (p : X) → ◌≡◌ {A = _} (Some o) (Some p) → o ≡ p
 some_is o p e = cc

@@ -1,6 +1,5 @@
 -- Kinds that gain one, or none.
-use Rattle.std.proofs.Common.{◌≡◌, ◌≢◌, ◌↔◌, ◌⊎◌, ℤ, inl, inr, ℕ, zero, suc, ◌+◌, ◌<◌, ◌≤◌, Option, Some, None, List, [], ◌∷◌, ◌++◌, length, get_or, slice_get, All, refl, sym, ap, subst, ◌∙◌, arith, append_assoc}
-use Rattle.std.specs.Prelude.{AllPairs}
+use Rattle.std.proofs.Common.{◌≡◌, ◌≢◌, ◌↔◌, ℤ, inl, inr, ℕ, zero, suc, ◌+◌, ◌<◌, ◌≤◌, Option, Some, None, List, [], ◌∷◌, ◌++◌, length, get_or, slice_get, refl, sym, ap, subst, ◌∙◌, arith, append_assoc}
 use Rattle.std.proofs.lemmas.Bool.{cases_lt}
 use Rattle.std.proofs.lemmas.List.{length-append, get_or_append_left, get_or-append-add, append-nil}
 use Rattle.geom.specs.declared.layer.Layer.{Layer}
@@ -14,7 +13,7 @@ use Rattle.stick_grid.specs.Windows.{HaveSameTiles, SameTilesAgree}
 use Rattle.block_grid.specs.declared.kind.BlockKind.{BlockKind}
 use Rattle.block_grid.specs.declared.kind.BlockKind.TheVariants.{Empty}
 use Rattle.node_cell.specs.BlockTiles.{block_plan}
-use Rattle.tree_chip.specs.TreeChips.{IsDrawnBy, IsNumbered, DrawsPlan}
+use Rattle.tree_chip.specs.TreeChips.{IsNumbered, DrawsPlan}
 use Rattle.tree_chip.specs.KindNumbers.{AreCellNumbers, AreDifferent, AreWireNumbers, GainsKind, IsKindNumber, cell_kind, wire_kinds}
 use Rattle.tree_chip.proofs.SameBlocks.{same_block}
 use Rattle.tree_chip.specs.Signatures.{signature_of}

@@ -1,6 +1,6 @@
 -- What stands at the places of a tree's sheet.
-use Rattle.std.proofs.Common.{◌≡◌, ◌≢◌, ◌⊎◌, inl, inr, ℕ, zero, suc, ◌+◌, ◌*◌, ◌<◌, ◌≤◌, Bool, true, false, cond, ◌&&◌, ◌==◌, nat_lt, Option, Some, None, List, [], ◌∷◌, ◌++◌, length, get_or, All, refl, sym, ap, subst, ◌∙◌, arith, eq-eqb}
-use Rattle.std.specs.Prelude.{AllPairs, find, slice_get, if◌then◌else◌}
+use Rattle.std.proofs.Common.{◌≡◌, inl, inr, ℕ, suc, ◌+◌, ◌<◌, ◌≤◌, Bool, true, false, cond, ◌&&◌, ◌==◌, nat_lt, Option, Some, None, List, [], ◌∷◌, length, get_or, refl, sym, ap, subst, ◌∙◌, arith, eq-eqb}
+use Rattle.std.specs.Prelude.{if◌then◌else◌}
 use Rattle.std.specs.Option.{option_map_or}
 use Rattle.std.proofs.lemmas.Bool.{eqb-true, lt-ltb, le-ltb, and_parts, cases_eq, cases_lt}
 use Rattle.geom.specs.Rows.{Among}
@@ -8,8 +8,7 @@ use Rattle.star_normal.specs.Tables.{TreeTable}
 use Rattle.block_grid.specs.declared.standing.Standing.{Standing}
 use Rattle.block_grid.specs.declared.kind.BlockKind.{BlockKind}
 use Rattle.block_grid.specs.declared.kind.BlockKind.TheVariants.{Empty, Horizontal, Vertical, Cross, Corner, Node, Frame}
-use Rattle.block_grid.specs.Sheets.{Sheet, IsSheet, node_on, node_kind, block_at, wire_kind, is_crossed_north, is_crossed_west}
-use Rattle.light_order.specs.Order.{frame}
+use Rattle.block_grid.specs.Sheets.{Sheet, node_on, node_kind, block_at, wire_kind, is_crossed_north, is_crossed_west}
 use Rattle.node_cell.specs.Blocks.{IsBlockOf}
 use Rattle.tree_chip.specs.TreePlans.{IsSheetOf}
 use Rattle.tree_chip.specs.KindNumbers.{cell_kind, IsCellWithin}

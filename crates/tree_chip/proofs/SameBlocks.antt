@@ -1,5 +1,5 @@
 -- Nodes of one signature have equal blocks.
-use Rattle.std.proofs.Common.{◌≡◌, ℕ, ◌<◌, Bool, true, false, nat_lt, List, [], ◌∷◌, ◌++◌, length, refl, sym, ap, ◌∙◌, arith}
+use Rattle.std.proofs.Common.{◌≡◌, ℕ, Bool, true, false, nat_lt, List, [], ◌∷◌, ◌++◌, length, refl, sym, ap, ◌∙◌}
 use Rattle.std.specs.Prelude.{if◌then◌else◌}
 use Rattle.rx_lang.specs.Tables.{Tables}
 use Rattle.star_normal.specs.declared.node.Node.{Node}
@@ -8,16 +8,13 @@ use Rattle.star_normal.specs.declared.node.NodeKind.TheVariants.{Leaf, Seq, Alt}
 use Rattle.star_normal.specs.Tables.{TreeTable}
 use Rattle.stick_grid.specs.Plans.{Plan}
 use Rattle.nor_net.specs.Part.{PartTables}
-use Rattle.nor_net.specs.declared.gate.Transfer.{Transfer}
-use Rattle.nor_net.specs.declared.part.PartPort.{PartPort}
 use Rattle.wiring.specs.Wirings.{Wiring}
-use Rattle.block_grid.specs.declared.kind.BlockKind.{BlockKind}
 use Rattle.block_grid.specs.declared.kind.BlockKind.TheVariants.{Node as NodeBlock, Frame as FrameBlock}
 use Rattle.cell_network.specs.declared.part_net.PartNet.TheVariants.{Begins, RightOut, LeftOut}
 use Rattle.cell_network.specs.declared.numbering.Counts.{Counts}
 use Rattle.cell_network.specs.declared.numbering.Numbering.{Numbering}
 use Rattle.cell_network.specs.Shapes.{NamedGate, leaf_gates, pair_gates, right_inputs, end_inputs, kind_transfers, mark_gates}
-use Rattle.cell_network.specs.Parts.{bundle, counts_of, leaf_numbers, pair_numbers, kind_ports, node_at, part_of, node_part_of, frame_part_of, part_with, loads_of}
+use Rattle.cell_network.specs.Parts.{bundle, counts_of, leaf_numbers, pair_numbers, kind_ports, node_at, node_part_of, frame_part_of, part_with, loads_of}
 use Rattle.node_cell.specs.Blocks.{block_side}
 use Rattle.node_cell.specs.BlockTiles.{cap, foot, ended, no_runs, pair_spans, pair_run, stacked_tile, node_tile, frame_tile, block_tile, block_plan}
 use Rattle.tree_chip.specs.declared.signature.Core.{Core}

@@ -6,7 +6,6 @@ use Rattle.geom.specs.Squares.{BoxShape}
 use Rattle.geom.specs.Rows.{Among}
 use Rattle.rx_lang.specs.Tables.{Tables}
 use Rattle.star_normal.specs.Tables.{TreeTable}
-use Rattle.stick_grid.specs.Plans.{Plan}
 use Rattle.block_grid.specs.declared.kind.Turn.TheVariants.{NorthEast, NorthWest, SouthEast, SouthWest}
 use Rattle.block_grid.specs.declared.kind.BlockKind.{BlockKind}
 use Rattle.block_grid.specs.declared.kind.BlockKind.TheVariants.{Empty, Horizontal, Vertical, Cross, Corner, Node, Frame}

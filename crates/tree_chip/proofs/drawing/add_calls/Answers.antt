@@ -1,11 +1,10 @@
 -- One column more.
-use Rattle.std.proofs.Common.{◌≡◌, ℕ, ◌+◌, ◌<◌, ◌++◌, List, Option, length, append_assoc, get_or, sym, ap, ◌∙◌, arith}
+use Rattle.std.proofs.Common.{ℕ, ◌+◌, ◌++◌, List, Option, get_or, ap, ◌∙◌}
 use Rattle.std.specs.Prelude.{flat_map}
 use Rattle.std.specs.List.{range_with_len}
-use Rattle.std.proofs.lemmas.List.{get_or_default}
 use Rattle.geom.specs.declared.chip.Call.{Call}
 use Rattle.block_grid.specs.declared.kind.BlockKind.TheVariants.{Empty}
-use Rattle.tree_chip.specs.KindNumbers.{call_at, calls_in_row, number_at}
+use Rattle.tree_chip.specs.KindNumbers.{call_at, number_at}
 use Rattle.tree_chip.proofs.Adding.{extends, pieces_more}
 use Rattle.tree_chip.proofs.drawing.add_calls.Goals as goal
 

@@ -1,13 +1,10 @@
 -- One row more.
-use Rattle.std.proofs.Common.{◌≡◌, ℕ, ◌+◌, ◌-◌, ◌*◌, ◌<◌, ◌≤◌, ◌++◌, List, Option, Some, get_or, length, sym, ap, ◌∙◌, arith}
-use Rattle.std.specs.Prelude.{flat_map}
-use Rattle.std.specs.List.{range_with_len}
+use Rattle.std.proofs.Common.{◌≡◌, ℕ, ◌+◌, ◌-◌, ◌*◌, ◌<◌, ◌++◌, Option, get_or, sym, ap, ◌∙◌, arith}
 use Rattle.std.proofs.lemmas.Nat.{mul-le}
 use Rattle.std.proofs.lemmas.Option.{get_or_from_slice_get}
-use Rattle.geom.specs.declared.chip.Call.{Call}
 use Rattle.block_grid.specs.declared.kind.BlockKind.TheVariants.{Empty}
 use Rattle.block_grid.specs.Sheets.{block_at}
-use Rattle.tree_chip.specs.KindNumbers.{call_at, calls_in_row, calls_in_rows, number_at}
+use Rattle.tree_chip.specs.KindNumbers.{call_at, calls_in_row, number_at}
 use Rattle.tree_chip.proofs.Adding.{pieces_more}
 use Rattle.tree_chip.proofs.RowsOfPlaces.{same_pieces}
 use Rattle.tree_chip.proofs.drawing.calls.Goals as goal

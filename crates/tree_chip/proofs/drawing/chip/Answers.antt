@@ -1,8 +1,5 @@
 -- The numbers of all blocks make the chip.
-use Rattle.std.proofs.Common.{◌≡◌, ℕ, ◌+◌, ◌*◌, ◌<◌, List, Option, All, length, sym, ap, subst, ◌∙◌}
-use Rattle.stick_grid.specs.Plans.{IsPlan}
-use Rattle.star_normal.specs.Tables.{TreeTable, IsTree}
-use Rattle.light_order.specs.Order.{light_first}
+use Rattle.std.proofs.Common.{ℕ, ◌*◌, List, Option, All, length, sym, ap, subst, ◌∙◌}
 use Rattle.block_grid.specs.declared.kind.BlockKind.{BlockKind}
 use Rattle.block_grid.specs.Sheets.{block_at}
 use Rattle.node_cell.specs.Blocks.{block_side}

@@ -1,10 +1,9 @@
 -- The number of an earlier node, or of a block that is drawn now.
-use Rattle.std.proofs.Common.{◌≡◌, ℕ, ◌+◌, ◌<◌, ◌≤◌, Option, None, List, [], ◌∷◌, ◌++◌, length, get_or, sym, ap, subst, ◌∙◌, arith}
-use Rattle.std.proofs.lemmas.List.{get_or_default}
+use Rattle.std.proofs.Common.{◌+◌, [], ◌∷◌, ◌++◌, sym, subst, arith}
 use Rattle.block_grid.specs.declared.kind.BlockKind.{BlockKind}
 use Rattle.node_cell.specs.Blocks.{IsBlockOf}
 use Rattle.node_cell.specs.BlockTiles.{block_plan}
-use Rattle.tree_chip.specs.KindNumbers.{AreCellNumbers, GainsKind, cell_kind}
+use Rattle.tree_chip.specs.KindNumbers.{AreCellNumbers, GainsKind}
 use Rattle.tree_chip.specs.TreeChips.{IsNumbered}
 use Rattle.tree_chip.proofs.Answered.{if_both}
 use Rattle.tree_chip.proofs.OnSheet.{cell_is_block}

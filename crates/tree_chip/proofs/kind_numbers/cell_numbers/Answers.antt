@@ -1,7 +1,6 @@
 -- One more node has its number and its signature.
-use Rattle.std.proofs.Common.{◌≡◌, ℕ, ◌+◌, ◌<◌, Option, Some, List, [], ◌∷◌, ◌++◌, length, slice_get, sym, ap, subst, ◌∙◌, arith}
+use Rattle.std.proofs.Common.{◌≡◌, ℕ, ◌+◌, Option, Some, List, [], ◌∷◌, ◌++◌, length, slice_get, sym, ap, subst, arith}
 use Rattle.std.specs.Prelude.{IfSome}
-use Rattle.std.proofs.lemmas.Grind.{common_steps}
 use Rattle.tree_chip.specs.declared.signature.Signature.{Signature}
 use Rattle.tree_chip.specs.KindNumbers.{AreCellNumbers}
 use Rattle.tree_chip.proofs.Signed.{AreSigned, signed_more, signed_earlier}

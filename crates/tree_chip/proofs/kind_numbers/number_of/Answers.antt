@@ -1,5 +1,5 @@
 -- A block without boxes has no squares; the kind of another one has a number.
-use Rattle.std.proofs.Common.{◌≡◌, List, [], ◌∷◌, length, ◌+◌, arith}
+use Rattle.std.proofs.Common.{◌≡◌, [], arith}
 use Rattle.std.proofs.lemmas.Grind.{common_steps}
 use Rattle.node_cell.specs.BlockTiles.{block_plan}
 use Rattle.tree_chip.proofs.Numbering.{none_drawn}

@@ -1,5 +1,5 @@
 -- A block that is none of them does not stand among them.
-use Rattle.std.proofs.Common.{◌≡◌, ℕ, ◌<◌, List, length, get_or, refl, sym, ◌∙◌, arith}
+use Rattle.std.proofs.Common.{refl, ◌∙◌, arith}
 use Rattle.std.proofs.lemmas.List.{get_or_default}
 use Rattle.tree_chip.proofs.Members.{among_at, contains_among}
 use Rattle.tree_chip.proofs.kind_numbers.stands_among.Goals as goal

@@ -1,5 +1,5 @@
 -- The node's place is on the sheet.
-use Rattle.std.proofs.Common.{◌<◌, ℕ, subst}
+use Rattle.std.proofs.Common.{◌<◌, subst}
 use Rattle.block_grid.specs.Lines.{BlockPlace, row_of}
 use Rattle.tree_chip.proofs.labels.corner_of.Goals as goal
 

@@ -1,5 +1,5 @@
 -- The labels by the corner of the frame's block are the tree's.
-use Rattle.std.proofs.Common.{◌≡◌, ℕ, ◌+◌, ◌-◌, ◌*◌, ◌<◌, List, map, sym, ap, subst, ◌∙◌}
+use Rattle.std.proofs.Common.{◌≡◌, ℕ, ◌-◌, ◌*◌, ◌<◌, List, map, ap, subst, ◌∙◌}
 use Rattle.std.specs.Prelude.{IfOk}
 use Rattle.geom.specs.declared.chip.Label.{Label}
 use Rattle.switch_net.specs.declared.network.Pad.{Pad}
