@@ -1,0 +1,5 @@
+pub mod Surrounding
+pub mod TileEdges
+pub mod Rectangles
+pub mod Measuring
+pub mod Existence
