@@ -30,7 +30,8 @@ sheet_of tree sheet is nodes edges = record {
 -- the network that was made is that of the cells
 pub recogniser_of : (tree : TreeTable) (tables : Tables) (net : Netlist) (network : Circuit) → network ≡ switch_form net → net ≡ cells_of tree tables
     → map (λ pad. pad.name) net.pads ≡ pad_names tables.lines tables.outputs
-    → Recognises network (length tables.lines) (Language (specification tables)) → ShowsSurely network (length tables.lines) (Language (specification tables))
+    → Recognises network (length tables.lines) (Language (specification tables))
+    → ShowsSurely network (length tables.lines) (Language (specification tables))
     → IsRecogniser (specification tables) (switch_form (cells_of tree tables))
 recogniser_of tree tables net network form cells pads recognises sure =
     subst (IsRecogniser (specification tables)) (form ∙ ap switch_form cells) (record {

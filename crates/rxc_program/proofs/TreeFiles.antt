@@ -94,7 +94,8 @@ module _ (sheet : Sheet) (tree : TreeTable) (tables : Tables) (spec_is : IsSpeci
 
   module _ (chip : ChipShape) (is : IsTreeChip sheet tree tables chip)
       (squares : (layer : Layer) (x y : ℤ) → ChipCovers chip layer x y ↔ Covers (tree_plan sheet tree tables) layer x y)
-      (few : length chip.kinds < 2 ^ 16) (within : KindsAreBlocks (tree_block_width tree tables) chip) (labels : chip.labels ≡ tree_labels sheet tree tables)
+      (few : length chip.kinds < 2 ^ 16) (within : KindsAreBlocks (tree_block_width tree tables) chip)
+      (labels : chip.labels ≡ tree_labels sheet tree tables)
       (alike : StandAlike (Covers (tree_plan sheet tree tables)) (Covered (chip_boxes chip))) where
     cover_alike : CoverAlike (Covers (tree_plan sheet tree tables)) (Covered (chip_boxes chip))
     cover_alike layer x y = (

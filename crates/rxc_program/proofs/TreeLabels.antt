@@ -31,9 +31,11 @@ module _ (sheet : Sheet) (tree : TreeTable) (tables : Tables)
   pads_named =
       let c = counts_of tree tables in
       let ends =
-      numbered_pads (pad_at Output (frame_numbers c).outputs tables.outputs) tables.outputs 0 (λ i below. (refl, outputs (0 + i) [] (omega (arith, below)))) in
+      numbered_pads (pad_at Output (frame_numbers c).outputs tables.outputs) tables.outputs 0
+      (λ i below. (refl, outputs (0 + i) [] (omega (arith, below)))) in
       let rest =
-      pads_before (pad_at Input (frame_numbers c).lines tables.lines) _ ends tables.lines 0 (λ i below. (refl, lines (0 + i) [] (omega (arith, below)))) in
+      pads_before (pad_at Input (frame_numbers c).lines tables.lines) _ ends tables.lines 0
+      (λ i below. (refl, lines (0 + i) [] (omega (arith, below)))) in
       ((refl, tt), ((refl, tt), ((refl, tt), ((refl, tt), ((refl, tt), rest)))))
 
   labels_named : (pads : List Pad) → AllByRecursion IsPadName (map (λ pad. pad.name) pads) → (label : Label)

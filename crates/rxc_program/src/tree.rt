@@ -100,7 +100,8 @@ fn layout_chip(alloc: Global, spec: &Spec) -> Result<Chip, NoMemory>
 /// let go: the layout draws the same network.
 fn cells_recognise(alloc: Global, tree: &Tree, spec: &Spec) -> Result<(), NoMemory>
     requires symbols { All (λ s. s < length spec.now.symbols) (leaves (whole tree.now)) }
-    requires languages { HasLanguages (MatchesSymbol spec.now.symbols) (specification spec.now).statements (specification spec.now).scans (whole tree.now) }
+    requires languages { HasLanguages (MatchesSymbol spec.now.symbols) (specification spec.now).statements (specification spec.now).scans
+        (whole tree.now) }
     ensures { OnOk result (IsRecogniser (specification spec.now) (switch_form (cells_of tree.now spec.now))) }
 {
     let netlist = cells(alloc, tree, spec)?;
