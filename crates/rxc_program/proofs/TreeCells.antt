@@ -1,5 +1,5 @@
 -- What the layout of a tree is called with: its sheet of blocks, and the network of its cells.
-use Rattle.std.proofs.Common.{◌≡◌, ◌==◌, List, map, ap, subst, ◌∙◌, length}
+use Rattle.std.proofs.Common.{◌≡◌, ◌==◌, map, ap, subst, ◌∙◌, length}
 use Rattle.std.specs.Prelude.{IsPermutation}
 use Rattle.std.proofs.lemmas.List.Sorted.{IsPermutation-refl}
 use Rattle.rx_lang.specs.Specification.{Language}

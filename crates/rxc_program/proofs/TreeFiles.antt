@@ -1,5 +1,5 @@
 -- The text of the chip of a tree's layout is a file of its specification.
-use Rattle.std.proofs.Common.{◌≡◌, ◌≢◌, ◌↔◌, ℕ, ◌+◌, ◌-◌, ◌*◌, ◌<◌, ◌≤◌, true, ℤ, pos, ◌≤ℤ◌, ◌<ℤ◌, List, [], length, All, Result, Ok, Err, refl, sym, ap, subst, ◌∙◌, arith}
+use Rattle.std.proofs.Common.{◌≡◌, ◌≢◌, ◌↔◌, ℕ, ◌-◌, ◌*◌, ◌<◌, ◌≤◌, true, ℤ, pos, ◌≤ℤ◌, ◌<ℤ◌, List, [], length, All, Result, Ok, Err, refl, sym, ap, subst, ◌∙◌, arith}
 use Rattle.std.specs.Prelude.{◌^◌, IfOk}
 use Rattle.std.proofs.Math.Nat.{mul-le-mul, mul-le-mul_left, mul_assoc, mul_comm}
 use Rattle.std.proofs.lemmas.Int.{ints}
@@ -23,7 +23,7 @@ use Rattle.rx_lang.specs.Tables.{IsSpecification, Tables, specification}
 use Rattle.star_normal.specs.Tables.{TreeTable}
 use Rattle.nmos_model.specs.Alike.{CoverAlike, StandAlike}
 use Rattle.nmos_model.specs.Networks.{StandsFor}
-use Rattle.stick_grid.specs.Plans.{Covers, Plan}
+use Rattle.stick_grid.specs.Plans.{Covers}
 use Rattle.block_grid.specs.Sheets.{Sheet}
 use Rattle.cell_network.specs.Parts.{counts_of}
 use Rattle.node_cell.specs.Blocks.{block_side}

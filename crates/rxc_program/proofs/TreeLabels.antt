@@ -14,7 +14,6 @@ use Rattle.switch_net.specs.Circuit.{Circuit}
 use Rattle.switch_net.specs.declared.network.Pad.{Pad}
 use Rattle.nmos_model.specs.Networks.{StandsFor}
 use Rattle.block_grid.specs.Sheets.{Sheet}
-use Rattle.cell_network.specs.declared.numbering.Counts.{Counts}
 use Rattle.cell_network.specs.Parts.{counts_of, frame_numbers}
 use Rattle.cell_network.specs.Whole.{pad_at}
 use Rattle.tree_chip.specs.TreePlans.{frame_pads, pad_label, tree_labels}

@@ -1,4 +1,4 @@
-use Rattle.std.proofs.Common.{◌≡◌, ◌+◌, ◌*◌, ◌≤◌, length, ap, sym, subst, arith}
+use Rattle.std.proofs.Common.{◌≡◌, ◌+◌, ◌≤◌, length, ap, sym, subst, arith}
 use Rattle.rx_lang.specs.Squares.{IsLevel}
 use Rattle.rx_lang.specs.Tables.{specification}
 use Rattle.star_normal.specs.Tables.{IsTree}
