@@ -1,5 +1,5 @@
 -- The least square of blocks that has room for so many, and its bound of rows and columns.
-use Rattle.std.proofs.Common.{◌≡◌, ℕ, zero, suc, ◌+◌, ◌^◌, ◌<◌, ◌≤◌, inl, inr, refl, ap, subst, arith}
+use Rattle.std.proofs.Common.{◌≡◌, ℕ, zero, suc, ◌+◌, ◌*◌, ◌^◌, ◌<◌, ◌≤◌, inl, inr, refl, ap, subst, arith}
 use Rattle.std.proofs.Math.Nat.{pow-le-pow_right}
 use Rattle.std.proofs.lemmas.Bool.{cases_lt}
 use Rattle.rx_lang.specs.Squares.{IsLevel, side_bound}
@@ -28,4 +28,4 @@ levels_exist m few = level_from m 7 0 refl (omega (arith, few)) (λ j enough. om
 
 -- up to the seventh there are at most 2048 rows and columns
 pub few_lines : (level : ℕ) → level ≤ 7 → side_bound level ≤ 2048
-few_lines level few = let power : 2 ^ level ≤ 2 ^ 7 = pow-le-pow_right {n = 2} (omega arith) {i = level} {j = 7} few in omega (arith, power)
+few_lines level few = let power : 2 ^ level ≤ 2 ^ 7 = pow-le-pow_right (omega arith) few in omega (arith, power)

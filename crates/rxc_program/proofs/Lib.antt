@@ -1,6 +1,5 @@
 pub mod Pieces
 pub mod Names
-pub mod LastWord
 pub mod Endings
 pub mod DrivenJudged
 pub mod Judged
@@ -8,6 +7,7 @@ pub mod LowLines
 pub mod Telling
 pub mod Files
 pub mod Answered
+pub mod Unread
 pub mod Promised
 pub mod WrittenBoxes
 pub mod TileBoxes
@@ -16,8 +16,11 @@ pub mod WrittenRows
 pub mod PadNames
 pub mod ArrayLabels
 pub mod ArrayFiles
+pub mod DemoWords
+pub mod Reported
 pub mod Members
 pub mod Levels
+pub mod AreaBounds
 pub mod BoxSides
 pub mod TreeCells
 pub mod TreeSquares

@@ -11,8 +11,7 @@ module _ (pad : ℕ → Pad) where
   numbered_pads (name ∷ names) first named = (
     subst (λ k. IsPadName (pad k).name) (let at : first + 0 ≡ first = omega arith in at) (named 0 (omega arith)),
     numbered_pads names (first + 1)
-        (λ i below. subst (λ k. IsPadName (pad k).name) (let at : first + suc i ≡ (first + 1) + i = omega arith in at)
-        (named (suc i) (omega (arith, below)))),
+        (λ i below. subst (λ k. IsPadName (pad k).name) (let at : first + suc i ≡ (first + 1) + i = omega arith in at) (named (suc i) (omega (arith, below)))),
   )
 
   -- and those of others behind
@@ -23,6 +22,5 @@ module _ (pad : ℕ → Pad) where
   pads_before rest ends (name ∷ names) first named = (
     subst (λ k. IsPadName (pad k).name) (let at : first + 0 ≡ first = omega arith in at) (named 0 (omega arith)),
     pads_before rest ends names (first + 1)
-        (λ i below. subst (λ k. IsPadName (pad k).name) (let at : first + suc i ≡ (first + 1) + i = omega arith in at)
-        (named (suc i) (omega (arith, below)))),
+        (λ i below. subst (λ k. IsPadName (pad k).name) (let at : first + suc i ≡ (first + 1) + i = omega arith in at) (named (suc i) (omega (arith, below)))),
   )

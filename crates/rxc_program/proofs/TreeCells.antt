@@ -1,5 +1,5 @@
 -- What the layout of a tree is called with: its sheet of blocks, and the network of its cells.
-use Rattle.std.proofs.Common.{◌≡◌, ◌==◌, map, ap, subst, ◌∙◌, length}
+use Rattle.std.proofs.Common.{◌≡◌, ◌==◌, List, map, ap, subst, ◌∙◌, length}
 use Rattle.std.specs.Prelude.{IsPermutation}
 use Rattle.std.proofs.lemmas.List.Sorted.{IsPermutation-refl}
 use Rattle.rx_lang.specs.Specification.{Language}
@@ -30,8 +30,7 @@ sheet_of tree sheet is nodes edges = record {
 -- the network that was made is that of the cells
 pub recogniser_of : (tree : TreeTable) (tables : Tables) (net : Netlist) (network : Circuit) → network ≡ switch_form net → net ≡ cells_of tree tables
     → map (λ pad. pad.name) net.pads ≡ pad_names tables.lines tables.outputs
-    → Recognises network (length tables.lines) (Language (specification tables))
-    → ShowsSurely network (length tables.lines) (Language (specification tables))
+    → Recognises network (length tables.lines) (Language (specification tables)) → ShowsSurely network (length tables.lines) (Language (specification tables))
     → IsRecogniser (specification tables) (switch_form (cells_of tree tables))
 recogniser_of tree tables net network form cells pads recognises sure =
     subst (IsRecogniser (specification tables)) (form ∙ ap switch_form cells) (record {

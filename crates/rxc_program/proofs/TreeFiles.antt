@@ -1,8 +1,9 @@
 -- The text of the chip of a tree's layout is a file of its specification.
-use Rattle.std.proofs.Common.{◌≡◌, ◌≢◌, ◌↔◌, ℕ, ◌-◌, ◌*◌, ◌<◌, ◌≤◌, true, ℤ, pos, ◌≤ℤ◌, ◌<ℤ◌, List, [], length, All, Result, Ok, Err, refl, sym, ap, subst, ◌∙◌, arith}
+use Rattle.std.proofs.Common.{◌≡◌, ◌≢◌, ◌↔◌, ℕ, ◌+◌, ◌-◌, ◌*◌, ◌<◌, ◌≤◌, true, ℤ, pos, ◌≤ℤ◌, List, [], length, All, Result, Ok, Err, refl, sym, ap, subst, ◌∙◌, arith}
 use Rattle.std.specs.Prelude.{◌^◌, IfOk}
-use Rattle.std.proofs.Math.Nat.{mul-le-mul, mul-le-mul_left, mul_assoc, mul_comm}
+use Rattle.std.proofs.Math.Nat.{mul-le-mul, mul_assoc, mul_comm}
 use Rattle.std.proofs.lemmas.Int.{ints}
+use Rattle.std.proofs.lemmas.Option.{slice_get_within}
 use Rattle.rx_text.specs.Name.{is_name}
 use Rattle.rx_text.specs.declared.pad_name.Role.TheVariants.{Vdd}
 use Rattle.geom.specs.declared.layer.Layer.{Layer}
@@ -16,63 +17,61 @@ use Rattle.geom.specs.CifLabels.{bears_labels}
 use Rattle.geom.specs.Chips.{ChipCovers, ChipShape, IsBoxOf}
 use Rattle.cif_write.specs.ChipText.{chip_text}
 use Rattle.cif_write.specs.WrittenChips.{ChipTextsDraw, IsWritable, IsWritableBox, IsWritableCall, IsWritableEdge, IsWritableLabel, chip_boxes}
-use Rattle.chip_box.specs.Extents.{RectanglesExist}
+use Rattle.chip_box.specs.Extents.{IsMeasured, RectanglesExist}
 use Rattle.rx_lang.specs.Specification.{Specification}
 use Rattle.rx_lang.specs.Squares.{IsLevel, side_bound}
 use Rattle.rx_lang.specs.Tables.{IsSpecification, Tables, specification}
 use Rattle.star_normal.specs.Tables.{TreeTable}
 use Rattle.nmos_model.specs.Alike.{CoverAlike, StandAlike}
 use Rattle.nmos_model.specs.Networks.{StandsFor}
-use Rattle.stick_grid.specs.Plans.{Covers}
+use Rattle.stick_grid.specs.Plans.{Covers, Plan}
 use Rattle.block_grid.specs.Sheets.{Sheet}
 use Rattle.cell_network.specs.Parts.{counts_of}
 use Rattle.node_cell.specs.Blocks.{block_side}
-use Rattle.tree_chip.specs.TreeChips.{IsTreeChip, KindsAreBlocks}
-use Rattle.tree_chip.specs.TreeChips.{block_width as tree_block_width}
+use Rattle.tree_chip.specs.TreeChips.{IsTreeChip, KindsAreBlocks, block_width}
 use Rattle.tree_chip.specs.TreeNetworks.{DrawsRecogniser}
 use Rattle.tree_chip.specs.TreePlans.{tree_labels, tree_plan}
 use Rattle.rxc_program.specs.Files.{HasTreeSides, IsFileOf, tree_file}
-use Rattle.report_text.specs.Sizes.{block_width, blocks, leaves, tree_area_bound, tree_side_bound, wires}
+use Rattle.rxc_program.specs.Measuring.{HasBox}
+use Rattle.report_text.specs.Sizes.{blocks, leaves, tree_side_bound, wires}
+use Rattle.rxc_program.proofs.AreaBounds.{area_within}
 use Rattle.rxc_program.proofs.BoxSides.{height_within, width_within}
+use Rattle.rxc_program.proofs.Members.{all_of}
 use Rattle.rxc_program.proofs.Levels.{few_lines}
 use Rattle.rxc_program.proofs.TreeLabels.{poly_is_drawn, tree_labels_named}
 use Rattle.rxc_program.proofs.TreeSquares.{boxes_ordered, chip_lies, kind_box, kind_within}
 use Rattle.rxc_program.proofs.WrittenBoxes.{written_boxes_cover}
 
 -- a number from 0 up to the side of a layout can be written
-near : (side lines : ℕ) (v : ℤ) → side ≤ 700 → lines ≤ 2048 → pos 0 ≤ℤ v → v <ℤ pos (14 * (side * lines)) → IsWritableEdge v
+near : (side lines : ℕ) (v : ℤ) → side ≤ 700 → lines ≤ 2048 → pos 0 ≤ℤ v → v ≤ℤ pos (14 * (side * lines)) → IsWritableEdge v
 near side lines v small few low high =
-    let most : side * lines ≤ 1433600 = mul-le-mul {n₁ = side} {m₁ = lines} {n₂ = 700} {m₂ = 2048} small few in
+    let most : side * lines ≤ 700 * 2048 = mul-le-mul small few in
     record { from = omega (arith, ints, low); to = omega (arith, ints, high, most) }
 
 -- so can a place
 place_near : (side lines i : ℕ) (v : ℤ) → side ≤ 700 → lines ≤ 2048 → i < lines → v ≡ pos ((14 * side) * i) → IsWritableEdge v
 place_near side lines i v small few below is =
-    let wide : 14 * side ≤ 9800 = omega (arith, small) in
-    let far : i ≤ 2048 = omega (arith, few, below) in
-    let most : (14 * side) * i ≤ 20070400 = mul-le-mul {n₁ = 14 * side} {m₁ = i} {n₂ = 9800} {m₂ = 2048} wide far in
+    let most : (14 * side) * i ≤ (14 * 700) * 2048 = mul-le-mul (let m : 14 * side ≤ 14 * 700 = omega (arith, small) in m) (omega (arith, few, below)) in
     record { from = omega (arith, ints, is); to = omega (arith, ints, is, most) }
 
 -- where some square is covered there are boxes
 some_boxes : (boxes : List BoxShape) (layer : Layer) (x y : ℤ) → Covered boxes layer x y → boxes ≢ []
 some_boxes boxes layer x y covered none = subst (λ l. Covered l layer x y) none covered
 
--- the side of a layout is within its bound where its lines are
-side_bounded : (side width lines bound : ℕ) → 14 * side ≡ width → lines ≤ bound → 14 * (side * lines) ≤ bound * width
-side_bounded side width lines bound wide few =
-    let most : (14 * side) * lines ≤ (14 * side) * bound = mul-le-mul_left (14 * side) few in
+-- the side of a layout in blocks, in the words of its specification
+side_is : (tree : TreeTable) (tables : Tables) (lines bound : ℕ) → lines ≤ bound
+    → 14 * (block_side (counts_of tree tables) * lines) ≤ bound * (140 * wires (specification tables) + 840)
+side_is tree tables lines bound few =
+    let side = block_side (counts_of tree tables) in
+    let most : (14 * side) * lines ≤ (14 * side) * bound = mul-le-mul (omega arith) few in
     let same : (14 * side) * lines ≡ 14 * (side * lines) = mul_assoc 14 side lines in
-    let end : (14 * side) * bound ≡ bound * width = mul_comm (14 * side) bound ∙ ap (λ n. bound * n) wide in
-    omega (arith, most, same, end)
-
-no_more : (a b c : ℕ) → a ≤ b → b ≤ c → a ≤ c
-no_more a b c first second = omega (arith, first, second)
+    let wide : 14 * side ≡ 140 * wires (specification tables) + 840 = omega arith in
+    let turned : (14 * side) * bound ≡ bound * (14 * side) = mul_comm (14 * side) bound in
+    rw (← wide) (omega (arith, most, same, turned))
 
 module _ (sheet : Sheet) (tree : TreeTable) (tables : Tables) (spec_is : IsSpecification tables)
     (lines : All (λ name. is_name name ≡ true) tables.lines) (outputs : All (λ name. is_name name ≡ true) tables.outputs)
     (texts : ChipTextsDraw) (rectangles : RectanglesExist)
-    (areas : (spec : Specification) (level width height : ℕ) → IsLevel (blocks spec) level → 1 ≤ leaves spec → 3 ≤ wires spec
-    → width ≤ tree_side_bound spec level → height ≤ tree_side_bound spec level → width * height ≤ tree_area_bound spec)
     (level : ℕ) (is_level : IsLevel (blocks (specification tables)) level) (low_level : level ≤ 7) (some : 1 ≤ leaves (specification tables))
     (rows : sheet.rows ≤ side_bound level) (cols : sheet.cols ≤ side_bound level)
     (shows : DrawsRecogniser (specification tables) (Covers (tree_plan sheet tree tables)) (tree_labels sheet tree tables)) where
@@ -94,8 +93,7 @@ module _ (sheet : Sheet) (tree : TreeTable) (tables : Tables) (spec_is : IsSpeci
 
   module _ (chip : ChipShape) (is : IsTreeChip sheet tree tables chip)
       (squares : (layer : Layer) (x y : ℤ) → ChipCovers chip layer x y ↔ Covers (tree_plan sheet tree tables) layer x y)
-      (few : length chip.kinds < 2 ^ 16) (within : KindsAreBlocks (tree_block_width tree tables) chip)
-      (labels : chip.labels ≡ tree_labels sheet tree tables)
+      (few : length chip.kinds < 2 ^ 16) (within : KindsAreBlocks (block_width tree tables) chip) (labels : chip.labels ≡ tree_labels sheet tree tables)
       (alike : StandAlike (Covers (tree_plan sheet tree tables)) (Covered (chip_boxes chip))) where
     cover_alike : CoverAlike (Covers (tree_plan sheet tree tables)) (Covered (chip_boxes chip))
     cover_alike layer x y = (
@@ -153,8 +151,8 @@ module _ (sheet : Sheet) (tree : TreeTable) (tables : Tables) (spec_is : IsSpeci
         record {
           pad = own.named;
           layer = subst (λ layer. bears_labels layer ≡ true) (sym own.layer) refl;
-          x = near side sheet.cols label.x small_side few_cols left right;
-          y = near side sheet.rows label.y small_side few_rows bottom top;
+          x = near side sheet.cols label.x small_side few_cols left (omega (arith, ints, right));
+          y = near side sheet.rows label.y small_side few_rows bottom (omega (arith, ints, top));
         }
 
     writable : IsWritable chip
@@ -173,37 +171,71 @@ module _ (sheet : Sheet) (tree : TreeTable) (tables : Tables) (spec_is : IsSpeci
     box = rectangles (chip_boxes chip) (some_boxes (chip_boxes chip) Poly first_square.0.x first_square.0.y first_square.1)
         (boxes_ordered sheet tree tables chip is within)
 
-    tree_sides : HasTreeSides (specification tables) (chip_text chip)
-    tree_sides =
+    sides_of : (r : Rect) → IsBoxOf (chip_boxes chip) r → HasTreeSides (specification tables) (chip_text chip)
+    sides_of r is_box =
         let lies = chip_lies sheet tree tables chip is within in
         let at = first_square.0 in
-        let width = width_within (chip_boxes chip) (side * sheet.cols) (side * sheet.rows) lies box.0 box.1 Poly at.x at.y first_square.1 in
-        let height = height_within (chip_boxes chip) (side * sheet.cols) (side * sheet.rows) lies box.0 box.1 Poly at.x at.y first_square.1 in
-        let wide : 14 * side ≡ block_width (specification tables) = omega arith in
-        let narrow : box.0.width ≤ tree_side_bound (specification tables) level =
-        no_more box.0.width _ _ width (side_bounded side (block_width (specification tables)) sheet.cols (side_bound level) wide cols) in
-        let low : box.0.height ≤ tree_side_bound (specification tables) level =
-        no_more box.0.height _ _ height (side_bounded side (block_width (specification tables)) sheet.rows (side_bound level) wide rows) in
+        let width = width_within (chip_boxes chip) (side * sheet.cols) (side * sheet.rows) lies r is_box Poly at.x at.y first_square.1 in
+        let height = height_within (chip_boxes chip) (side * sheet.cols) (side * sheet.rows) lies r is_box Poly at.x at.y first_square.1 in
+        let narrow : r.width ≤ tree_side_bound (specification tables) level =
+        omega (arith, width, side_is tree tables sheet.cols (side_bound level) cols) in
+        let low : r.height ≤ tree_side_bound (specification tables) level =
+        omega (arith, height, side_is tree tables sheet.rows (side_bound level) rows) in
         let l = spec_is.some_lines in
         let s = spec_is.some_symbols in
         let o = spec_is.some_outputs in
         record {
           level = level;
           is_level = is_level;
-          width = box.0.width;
-          height = box.0.height;
+          width = r.width;
+          height = r.height;
           drawn = record {
             boxes = chip_boxes chip;
             labels = chip.labels;
             draws = texts.drawn chip writable;
-            box = box.0;
-            box_of = box.1;
+            box = r;
+            box_of = is_box;
             width_is = refl;
             height_is = refl;
           };
           narrow = narrow;
           low = low;
-          small = areas (specification tables) level box.0.width box.0.height is_level some (omega (arith, l, s, o)) narrow low;
+          small = area_within (specification tables) level r.width r.height is_level some (omega (arith, l, s, o)) narrow low;
+        }
+
+    tree_sides : HasTreeSides (specification tables) (chip_text chip)
+    tree_sides = sides_of box.0 box.1
+
+    call_measured : (call : Call) → Among chip.calls call → IsMeasured (length chip.kinds) call
+    call_measured call among =
+        let w = call_written call among in
+        record {
+          kind = slice_get_within chip.kinds call.kind w.boxes w.kind;
+          x = (omega (arith, ints, w.x.from), omega (arith, ints, w.x.to));
+          y = (omega (arith, ints, w.y.from), omega (arith, ints, w.y.to));
+        }
+
+    pub has_box : HasBox chip
+    has_box =
+        let lies = chip_lies sheet tree tables chip is within in
+        let at = first_square.0 in
+        let covered = first_square.1 in
+        let wide : side * sheet.cols ≤ 700 * 2048 = mul-le-mul small_side few_cols in
+        let high : side * sheet.rows ≤ 700 * 2048 = mul-le-mul small_side few_rows in
+        record {
+          measured = all_of (IsMeasured (length chip.kinds)) chip.calls call_measured;
+          some = some_boxes (chip_boxes chip) Poly at.x at.y covered;
+          drawn = λ r is_box. (sides_of r is_box).drawn;
+          narrow = λ r is_box. omega (
+            arith,
+            wide,
+            width_within (chip_boxes chip) (side * sheet.cols) (side * sheet.rows) lies r is_box Poly at.x at.y covered,
+          );
+          low = λ r is_box. omega (
+            arith,
+            high,
+            height_within (chip_boxes chip) (side * sheet.cols) (side * sheet.rows) lies r is_box Poly at.x at.y covered,
+          );
         }
 
     pub tree_file_of : IsFileOf tree_file (specification tables) (chip_text chip)
@@ -220,8 +252,20 @@ module _ (sheet : Sheet) (tree : TreeTable) (tables : Tables) (spec_is : IsSpeci
       → IfOk result (λ chip. IsTreeChip sheet tree tables chip)
       → IfOk result (λ chip. (layer : Layer) (x y : ℤ) → ChipCovers chip layer x y ↔ Covers (tree_plan sheet tree tables) layer x y)
       → IfOk result (λ chip. length chip.kinds < 2 ^ 16)
-      → IfOk result (KindsAreBlocks (tree_block_width tree tables))
+      → IfOk result (KindsAreBlocks (block_width tree tables))
       → IfOk result (λ chip. chip.labels ≡ tree_labels sheet tree tables)
       → IfOk result (λ chip. IsFileOf tree_file (specification tables) (chip_text chip))
   tree_files alike (Err refused) made squares few within labels = tt
   tree_files alike (Ok chip) made squares few within labels = tree_file_of chip made squares few within labels (alike chip)
+
+  -- and it can be measured
+  pub tree_boxes : ((chip : ChipShape) → StandAlike (Covers (tree_plan sheet tree tables)) (Covered (chip_boxes chip)))
+      → {E : Type 0} (result : Result ChipShape E)
+      → IfOk result (λ chip. IsTreeChip sheet tree tables chip)
+      → IfOk result (λ chip. (layer : Layer) (x y : ℤ) → ChipCovers chip layer x y ↔ Covers (tree_plan sheet tree tables) layer x y)
+      → IfOk result (λ chip. length chip.kinds < 2 ^ 16)
+      → IfOk result (KindsAreBlocks (block_width tree tables))
+      → IfOk result (λ chip. chip.labels ≡ tree_labels sheet tree tables)
+      → IfOk result (λ chip. HasBox chip)
+  tree_boxes alike (Err refused) made squares few within labels = tt
+  tree_boxes alike (Ok chip) made squares few within labels = has_box chip made squares few within labels (alike chip)

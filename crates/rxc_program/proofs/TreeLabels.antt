@@ -1,5 +1,5 @@
 -- The labels of a tree's layout bear names of pads, and stand on poly that is drawn.
-use Rattle.std.proofs.Common.{◌≡◌, inl, inr, ◌+◌, true, Some, List, [], ◌∷◌, All, map, refl, subst, arith}
+use Rattle.std.proofs.Common.{◌≡◌, inl, inr, ℕ, ◌+◌, true, ℤ, List, [], ◌∷◌, All, map, refl, subst, arith}
 use Rattle.std.specs.List.{AllByRecursion}
 use Rattle.rx_text.specs.Name.{is_name}
 use Rattle.rx_text.specs.declared.pad_name.Role.TheVariants.{Input, Output}
@@ -14,6 +14,7 @@ use Rattle.switch_net.specs.Circuit.{Circuit}
 use Rattle.switch_net.specs.declared.network.Pad.{Pad}
 use Rattle.nmos_model.specs.Networks.{StandsFor}
 use Rattle.block_grid.specs.Sheets.{Sheet}
+use Rattle.cell_network.specs.declared.numbering.Counts.{Counts}
 use Rattle.cell_network.specs.Parts.{counts_of, frame_numbers}
 use Rattle.cell_network.specs.Whole.{pad_at}
 use Rattle.tree_chip.specs.TreePlans.{frame_pads, pad_label, tree_labels}
@@ -30,11 +31,9 @@ module _ (sheet : Sheet) (tree : TreeTable) (tables : Tables)
   pads_named =
       let c = counts_of tree tables in
       let ends =
-      numbered_pads (pad_at Output (frame_numbers c).outputs tables.outputs) tables.outputs 0
-      (λ i below. (refl, outputs (0 + i) [] (omega (arith, below)))) in
+      numbered_pads (pad_at Output (frame_numbers c).outputs tables.outputs) tables.outputs 0 (λ i below. (refl, outputs (0 + i) [] (omega (arith, below)))) in
       let rest =
-      pads_before (pad_at Input (frame_numbers c).lines tables.lines) _ ends tables.lines 0
-      (λ i below. (refl, lines (0 + i) [] (omega (arith, below)))) in
+      pads_before (pad_at Input (frame_numbers c).lines tables.lines) _ ends tables.lines 0 (λ i below. (refl, lines (0 + i) [] (omega (arith, below)))) in
       ((refl, tt), ((refl, tt), ((refl, tt), ((refl, tt), ((refl, tt), rest)))))
 
   labels_named : (pads : List Pad) → AllByRecursion IsPadName (map (λ pad. pad.name) pads) → (label : Label)
@@ -51,5 +50,5 @@ pub poly_is_drawn : (Drawn : Drawing) (labels : List Label) (circuit : Circuit) 
     → Among labels label → label.layer ≡ Poly → Drawn Poly label.x label.y
 poly_is_drawn Drawn labels circuit stands label among poly =
     let net = stands.sound.on_nets label among in
-    let there = subst (λ layer. stands.net layer label.x label.y ≡ Some net.0) poly net.1 in
+    let there = subst (λ layer. stands.net layer label.x label.y ≡ _) poly net.1 in
     stands.nets.conducts Poly label.x label.y net.0 there

@@ -1,12 +1,11 @@
 -- The squares of the chip of a tree's layout lie in its rows and columns of blocks, and its boxes have squares.
-use Rattle.std.proofs.Common.{◌≡◌, inl, inr, ℕ, suc, ◌+◌, ◌-◌, ◌*◌, ◌<◌, ◌≤◌, ℤ, pos, ◌-ℤ◌, ◌≤ℤ◌, ◌<ℤ◌, List, [], ◌∷◌, slice_get, All, refl, subst, arith}
+use Rattle.std.proofs.Common.{◌≡◌, inl, inr, ℕ, suc, ◌+◌, ◌-◌, ◌*◌, ◌<◌, ◌≤◌, ℤ, pos, ◌+ℤ◌, ◌-ℤ◌, ◌≤ℤ◌, ◌<ℤ◌, List, [], ◌∷◌, map, slice_get, Some, All, refl, sym, subst, ap, arith}
 use Rattle.std.proofs.Math.Nat.{mul_assoc, mul-le-mul_left, mul-suc}
 use Rattle.std.proofs.lemmas.Int.{ints}
 use Rattle.geom.specs.declared.layer.Layer.{Layer}
 use Rattle.geom.specs.declared.chip.Call.{Call}
 use Rattle.geom.specs.Squares.{BoxShape, Covered, Inside, IsBox}
 use Rattle.geom.specs.Rows.{Among}
-use Rattle.geom.specs.Merged.{InRuns}
 use Rattle.geom.specs.Chips.{Calls, CalledAt, ChipShape}
 use Rattle.cif_write.specs.WrittenChips.{chip_boxes, kind_at, shifted}
 use Rattle.chip_box.specs.Extents.{IsOrdered}
@@ -38,8 +37,7 @@ box_there (b ∷ boxes) layer x y (inr there) = let later = box_there boxes laye
 -- the end of a place is no later than that of all places
 place_end : (side n i : ℕ) → i < n → (14 * side) * i + 14 * side ≤ 14 * (side * n)
 place_end side n i below =
-    let next : suc i ≤ n = omega (arith, below) in
-    let ends : (14 * side) * suc i ≤ (14 * side) * n = mul-le-mul_left (14 * side) next in
+    let ends : (14 * side) * suc i ≤ (14 * side) * n = mul-le-mul_left (14 * side) below in
     let one : (14 * side) * suc i ≡ (14 * side) * i + 14 * side = mul-suc (14 * side) i in
     let all : (14 * side) * n ≡ 14 * (side * n) = mul_assoc 14 side n in
     omega (arith, ends, one, all)
@@ -67,7 +65,7 @@ module _ (sheet : Sheet) (tree : TreeTable) (tables : Tables) (chip : ChipShape)
   kind_within boxes b kind among = each_of IsInBlock boxes (each_of (All IsInBlock) chip.kinds within boxes kind) b among
 
   pub kind_box : (boxes : List BoxShape) (b : BoxShape) → Among chip.kinds boxes → Among boxes b → IsBox b
-  kind_box boxes b kind among = run_box boxes (each_of InRuns chip.kinds is.runs boxes kind) b among
+  kind_box boxes b kind among = run_box boxes (each_of _ chip.kinds is.runs boxes kind) b among
 
   -- a square of a call lies in its place
   call_lies : (layer : Layer) (x y : ℤ) (call : Call) → Among chip.calls call → Calls chip.kinds call layer x y

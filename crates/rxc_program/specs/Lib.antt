@@ -1,5 +1,6 @@
 -- Definitions that public contracts cite:
 pub mod Words
+pub mod DemoWords
 pub mod Codes
 pub mod StatusText
 pub mod Behaviour
@@ -7,6 +8,7 @@ pub mod Endings
 pub mod Files
 pub mod Compiling
 pub mod Simulating
+pub mod Reporting
 pub mod Telling
 pub mod Commands
 pub mod Promises
@@ -14,3 +16,4 @@ pub mod Logged
 -- Definitions that serve private contracts alone:
 pub mod Pieces
 pub mod Serving
+pub mod Measuring

@@ -1,7 +1,8 @@
 -- Which lists of words are commands, and at which word any other list goes wrong.
 use Rattle.std.specs.Prelude.{ℕ, suc, ◌+◌, ◌&&◌, Bool, true, false, List, [], ◌∷◌, Option, Some, None, map, fold, max, find, bytes_eq, codes, option_map, is_some, if◌then◌else◌}
+use Rattle.rxc_program.specs.DemoWords.{is_leaf_count, is_start, number_in}
 use Rattle.rxc_program.specs.declared.words.Command.{Command}
-use Rattle.rxc_program.specs.declared.words.Command.TheVariants.{Net, Pla, Tree, Sim}
+use Rattle.rxc_program.specs.declared.words.Command.TheVariants.{Net, Pla, Tree, Sim, Report, Demo}
 
 -- a test for each word of a command, and the command that such words name
 pub record Usage : Type 0 where
@@ -14,6 +15,11 @@ commands =
     ∷ record { tests = bytes_eq (codes "pla") ∷ []; names = λ words. Pla }
     ∷ record { tests = bytes_eq (codes "tree") ∷ []; names = λ words. Tree }
     ∷ record { tests = bytes_eq (codes "sim") ∷ []; names = λ words. Sim }
+    ∷ record { tests = bytes_eq (codes "report") ∷ []; names = λ words. Report }
+    ∷ record {
+      tests = bytes_eq (codes "demo") ∷ is_start ∷ is_leaf_count ∷ [];
+      names = λ words. Demo (number_in words 1) (number_in words 2);
+    }
     ∷ []
 
 -- the words are just such as the tests ask for

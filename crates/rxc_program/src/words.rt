@@ -2,8 +2,10 @@
 
 ghost use Rattle.std.specs.Prelude.{◌≡◌, ◌<◌, ◌^◌, ◌==◌, length, bytes_eq, Some, Ok, Err, IfOk, if◌then◌else◌};
 ghost use Rattle.std.specs.Result.{result_err};
+ghost use Rattle.rxc_program.specs.DemoWords.{HasLeafCount};
 ghost use Rattle.rxc_program.specs.Words.{command_of, wrong_word};
 
+use crate::demo_words::demo_named;
 use std::marker::Model;
 
 /// One word of the command line, as bytes.
@@ -28,6 +30,13 @@ impl RxWord {
         RxWord { bytes }
     }
 
+    /// The bytes of the word.
+    pub(crate) fn bytes(&self) -> &[u8]
+        ensures { result.now ≡ self.now }
+    {
+        &self.bytes
+    }
+
     // Whether the word is this text.
     fn is(&self, text: &[u8]) -> bool
         ensures { result ≡ bytes_eq self.now text.now }
@@ -47,11 +56,16 @@ pub enum Command {
     Tree,
     /// A trace and the text of a network in, the levels of the network's outputs after each clock out.
     Sim,
+    /// A specification in, the counts and areas of its layouts out.
+    Report,
+    /// The counts and areas of a large specification that draws from `start` make for so many leaves. It reads nothing.
+    Demo { start: u64, leaves: u32 },
 }
 
 /// The command that the words name. An error is the number of the first word, from 1, at which no command goes on.
 pub(crate) fn named_command(words: &[RxWord]) -> Result<Command, u32>
     ensures command { IfOk result (λ command. command_of words.now ≡ Some command) }
+    ensures leaves { IfOk result HasLeafCount }
     ensures wrong { result_err result ≡ wrong_word words.now }
 {
     match words {
@@ -59,6 +73,8 @@ pub(crate) fn named_command(words: &[RxWord]) -> Result<Command, u32>
         [first, rest @ ..] if first.is(b"pla") => alone(Command::Pla, rest),
         [first, rest @ ..] if first.is(b"tree") => alone(Command::Tree, rest),
         [first, rest @ ..] if first.is(b"sim") => alone(Command::Sim, rest),
+        [first, rest @ ..] if first.is(b"report") => alone(Command::Report, rest),
+        [first, rest @ ..] if first.is(b"demo") => demo_named(rest),
         _ => Err(1),
     }
 }

@@ -1,5 +1,5 @@
 -- The calls of rows of blocks, of which each has the number of its kind or none.
-use Rattle.std.proofs.Common.{◌≡◌, ◌≢◌, inl, inr, ℕ, zero, suc, ◌+◌, ◌-◌, ◌*◌, ◌<◌, ◌≤◌, pos, Option, Some, None, List, [], ◌∷◌, ◌++◌, length, get_or, refl, sym, ap, subst, ◌∙◌, arith}
+use Rattle.std.proofs.Common.{◌≡◌, ◌≢◌, ◌⊎◌, inl, inr, ℕ, zero, suc, ◌+◌, ◌-◌, ◌*◌, ◌<◌, ◌≤◌, ℤ, pos, Option, Some, None, List, [], ◌∷◌, ◌++◌, length, get_or, All, refl, sym, ap, subst, ◌∙◌, arith}
 use Rattle.std.specs.Prelude.{AllPairs, flat_map}
 use Rattle.std.specs.List.{range_with_len}
 use Rattle.std.proofs.lemmas.Int.{ints}
@@ -7,7 +7,7 @@ use Rattle.std.proofs.lemmas.Bool.{cases_eq}
 use Rattle.geom.specs.declared.chip.Call.{Call}
 use Rattle.geom.specs.Rows.{Among}
 use Rattle.tree_chip.proofs.Members.{among_left, among_right, among_append}
-use Rattle.tree_chip.specs.KindNumbers.{call_at, calls_in_row}
+use Rattle.tree_chip.specs.KindNumbers.{call_at, calls_in_row, calls_in_rows}
 
 -- ---- lists
 
@@ -80,13 +80,12 @@ module _ (width south : ℕ) (some : 0 < width) (number : ℕ → Option ℕ) wh
   row_distinct : (a n : ℕ) → Related Distinct (calls_from a n)
   row_distinct a zero = tt
   row_distinct a (suc n) =
-      related_append Distinct (call_at width south a (number a)) (calls_from (a + 1) n) (distinct_at width south a (number a))
-      (row_distinct (a + 1) n)
+      related_append Distinct (call_at width south a (number a)) (calls_from (a + 1) n) (distinct_at width south a (number a)) (row_distinct (a + 1) n)
       (λ p q m k same other.
-      let one = puts_at width south a (number a) p m in
-      let two = row_call (a + 1) n q k in
-      let low = two.1 in
-      multiples_apart width a two.0 some (omega (arith, low)) (sym one.x ∙ same ∙ two.3.x))
+          let one = puts_at width south a (number a) p m in
+          let two = row_call (a + 1) n q k in
+          let low = two.1 in
+          multiples_apart width a two.0 some (omega (arith, low)) (sym one.x ∙ same ∙ two.3.x))
 
   -- a column with a kind is called
   row_called : (a n col kind : ℕ) → a ≤ col → col < a + n → number col ≡ Some kind
@@ -97,10 +96,8 @@ module _ (width south : ℕ) (some : 0 < width) (number : ℕ → Option ℕ) wh
         let here : Among (call_at width south col (number col)) (record { kind = kind; x = pos (width * col); y = pos (width * south) }) =
         subst (λ o. Among (call_at width south col o) (record { kind = kind; x = pos (width * col); y = pos (width * south) })) (sym e) (inl refl) in
         among_left (call_at width south a (number a)) (calls_from (a + 1) n) _
-        (subst (λ (k : ℕ). Among (call_at width south k (number k)) (record { kind = kind; x = pos (width * col); y = pos (width * south) }))
-        (sym same) here)
-    | inr ne ↦ among_right (call_at width south a (number a)) (calls_from (a + 1) n) _
-        (row_called (a + 1) n col kind (omega (arith, low, ne)) (omega (arith, high)) e)
+        (subst (λ (k : ℕ). Among (call_at width south k (number k)) (record { kind = kind; x = pos (width * col); y = pos (width * south) })) (sym same) here)
+    | inr ne ↦ among_right (call_at width south a (number a)) (calls_from (a + 1) n) _ (row_called (a + 1) n col kind (omega (arith, low, ne)) (omega (arith, high)) e)
   ]
 
 module _ (width rows cols : ℕ) (some : 0 < width) (number : ℕ → ℕ → Option ℕ) where
@@ -134,11 +131,11 @@ module _ (width rows cols : ℕ) (some : 0 < width) (number : ℕ → ℕ → Op
       related_append Distinct (calls_in_row width (south_of a) cols (number a)) (rows_from (a + 1) n)
       (row_distinct width (south_of a) some (number a) 0 cols) (all_distinct (a + 1) n (omega (arith, e)))
       (λ p q m k same other.
-      let one = in_row a p m in
-      let two = all_calls (a + 1) n q k in
-      let low = two.1 in
-      let high = two.2 in
-      multiples_apart width (south_of two.0) (south_of a) some (omega (arith, low, high, e)) (sym two.3.puts.y ∙ sym other ∙ one.puts.y))
+          let one = in_row a p m in
+          let two = all_calls (a + 1) n q k in
+          let low = two.1 in
+          let high = two.2 in
+          multiples_apart width (south_of two.0) (south_of a) some (omega (arith, low, high, e)) (sym two.3.puts.y ∙ sym other ∙ one.puts.y))
 
   pub all_called : (a n row col kind : ℕ) → a ≤ row → row < a + n → col < cols → number row col ≡ Some kind
       → Among (rows_from a n) (record { kind = kind; x = pos (width * col); y = pos (width * south_of row) })
@@ -146,8 +143,7 @@ module _ (width rows cols : ℕ) (some : 0 < width) (number : ℕ → ℕ → Op
   all_called a (suc n) row col kind low high is_col e = elim (cases_eq a row) [
     | inl same ↦
         among_left (calls_in_row width (south_of a) cols (number a)) (rows_from (a + 1) n) _
-        (subst (λ (k : ℕ). Among (calls_in_row width (south_of k) cols (number k))
-        (record { kind = kind; x = pos (width * col); y = pos (width * south_of row) })) (sym same)
+        (subst (λ (k : ℕ). Among (calls_in_row width (south_of k) cols (number k)) (record { kind = kind; x = pos (width * col); y = pos (width * south_of row) })) (sym same)
         (row_called width (south_of row) some (number row) 0 cols col kind (omega arith) (omega (arith, is_col)) e))
     | inr ne ↦
         among_right (calls_in_row width (south_of a) cols (number a)) (rows_from (a + 1) n) _

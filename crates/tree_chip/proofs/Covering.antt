@@ -1,9 +1,9 @@
 -- Chips that call the blocks of a layout have its squares.
-use Rattle.std.proofs.Common.{◌≡◌, ◌↔◌, inl, inr, ℕ, ◌+◌, ◌-◌, ◌*◌, ◌/◌, ◌%◌, ◌<◌, ℤ, pos, ◌-ℤ◌, List, [], ◌∷◌, Some, refl, sym, ap, subst, ◌∙◌, arith}
+use Rattle.std.proofs.Common.{◌≡◌, ◌⊎◌, ◌↔◌, inl, inr, ℕ, ◌+◌, ◌-◌, ◌*◌, ◌/◌, ◌%◌, ◌<◌, ℤ, pos, ◌-ℤ◌, List, [], ◌∷◌, slice_get, Some, refl, sym, ap, subst, ◌∙◌, arith}
 use Rattle.std.proofs.lemmas.Int.{ints}
 use Rattle.geom.specs.declared.layer.Layer.{Layer}
 use Rattle.geom.specs.declared.chip.Call.{Call}
-use Rattle.geom.specs.Squares.{Covered}
+use Rattle.geom.specs.Squares.{BoxShape, Covered}
 use Rattle.geom.specs.Rows.{Among}
 use Rattle.geom.specs.Chips.{ChipShape, Calls, CalledAt, ChipCovers}
 use Rattle.rx_lang.specs.Tables.{Tables}
@@ -15,7 +15,7 @@ use Rattle.cell_network.specs.Parts.{counts_of}
 use Rattle.node_cell.specs.Blocks.{block_side}
 use Rattle.node_cell.specs.BlockTiles.{block_plan, block_tile}
 use Rattle.tree_chip.specs.TreePlans.{tree_plan, tree_tile}
-use Rattle.tree_chip.specs.TreeChips.{block_width, StandsAt, IsTreeChip}
+use Rattle.tree_chip.specs.TreeChips.{block_width, StandsAt, IsCallOf, IsTreeChip}
 use Rattle.tree_chip.proofs.BlockRows.{row_within, block_of, rest_of, is_block, is_rest, whole_of, south_of, width_times, width_turned}
 
 some_is : {X : Type 0} (o : X) (p : X) → ◌≡◌ {A = _} (Some o) (Some p) → o ≡ p
@@ -34,8 +34,7 @@ module _ (sheet : Sheet) (tree : TreeTable) (tables : Tables) where
   -- a tile of a block is one of the layout
   tile_is : (row col r c : ℕ) → r < side → c < side → tree_tile sheet tree tables (row * side + r) (col * side + c) ≡ (part row col).tile r c
   tile_is row col r c is_r is_c =
-      ap (λ (n : ℕ). block_tile tree tables (block_at sheet n ((col * side + c) / side)) ((row * side + r) % side) ((col * side + c) % side))
-      (block_of side row r is_r)
+      ap (λ (n : ℕ). block_tile tree tables (block_at sheet n ((col * side + c) / side)) ((row * side + r) % side) ((col * side + c) % side)) (block_of side row r is_r)
       ∙ ap (λ (n : ℕ). block_tile tree tables (block_at sheet row n) ((row * side + r) % side) ((col * side + c) % side)) (block_of side col c is_c)
       ∙ ap (λ (n : ℕ). block_tile tree tables (block_at sheet row col) n ((col * side + c) % side)) (rest_of side row r is_r)
       ∙ ap (λ (n : ℕ). block_tile tree tables (block_at sheet row col) r n) (rest_of side col c is_c)
@@ -60,17 +59,13 @@ module _ (sheet : Sheet) (tree : TreeTable) (tables : Tables) where
       is_row = row_within side sheet.rows row h.row is_row h.is_row;
       is_col = row_within side sheet.cols col h.col is_col h.is_col;
       covered =
-          subst (λ (t : ℕ). Covered (boxes t) layer (local_x (col * side + h.col) x) (local_y whole (row * side + h.row) y))
-          (sym (tile_is row col h.row h.col h.is_row h.is_col))
-          (subst (λ (v : ℤ). Covered (boxes ((part row col).tile h.row h.col)) layer (local_x (col * side + h.col) x) v)
-          (upward row col h.row call.y is_row h.is_row at.y)
-          (subst (λ (u : ℤ). Covered (boxes ((part row col).tile h.row h.col)) layer u (local_y (part row col) h.row (y -ℤ call.y)))
-          (across col h.col call.x at.x) h.covered));
+          subst (λ (t : ℕ). Covered (boxes t) layer (local_x (col * side + h.col) x) (local_y whole (row * side + h.row) y)) (sym (tile_is row col h.row h.col h.is_row h.is_col))
+          (subst (λ (v : ℤ). Covered (boxes ((part row col).tile h.row h.col)) layer (local_x (col * side + h.col) x) v) (upward row col h.row call.y is_row h.is_row at.y)
+          (subst (λ (u : ℤ). Covered (boxes ((part row col).tile h.row h.col)) layer u (local_y (part row col) h.row (y -ℤ call.y))) (across col h.col call.x at.x) h.covered));
     }
 
     up : (row col r c : ℕ) (call : Call) → row < sheet.rows → r < side → c < side → StandsAt (block_width tree tables) sheet.rows row col call
-        → Covered (boxes (tree_tile sheet tree tables (row * side + r) (col * side + c))) layer (local_x (col * side + c) x)
-        (local_y whole (row * side + r) y)
+        → Covered (boxes (tree_tile sheet tree tables (row * side + r) (col * side + c))) layer (local_x (col * side + c) x) (local_y whole (row * side + r) y)
         → Covers (part row col) layer (x -ℤ call.x) (y -ℤ call.y)
     up row col r c call is_row is_r is_c at h = record {
       row = r;
@@ -78,12 +73,9 @@ module _ (sheet : Sheet) (tree : TreeTable) (tables : Tables) where
       is_row = is_r;
       is_col = is_c;
       covered =
-          subst (λ (t : ℕ). Covered (boxes t) layer (local_x c (x -ℤ call.x)) (local_y (part row col) r (y -ℤ call.y)))
-          (tile_is row col r c is_r is_c)
-          (subst (λ (v : ℤ). Covered (boxes (tree_tile sheet tree tables (row * side + r) (col * side + c))) layer (local_x c (x -ℤ call.x)) v)
-          (sym (upward row col r call.y is_row is_r at.y))
-          (subst (λ (u : ℤ). Covered (boxes (tree_tile sheet tree tables (row * side + r) (col * side + c))) layer u
-          (local_y whole (row * side + r) y)) (sym (across col c call.x at.x)) h));
+          subst (λ (t : ℕ). Covered (boxes t) layer (local_x c (x -ℤ call.x)) (local_y (part row col) r (y -ℤ call.y))) (tile_is row col r c is_r is_c)
+          (subst (λ (v : ℤ). Covered (boxes (tree_tile sheet tree tables (row * side + r) (col * side + c))) layer (local_x c (x -ℤ call.x)) v) (sym (upward row col r call.y is_row is_r at.y))
+          (subst (λ (u : ℤ). Covered (boxes (tree_tile sheet tree tables (row * side + r) (col * side + c))) layer u (local_y whole (row * side + r) y)) (sym (across col c call.x at.x)) h));
     }
 
     module _ (chip : ChipShape) (is : IsTreeChip sheet tree tables chip) where
@@ -95,8 +87,7 @@ module _ (sheet : Sheet) (tree : TreeTable) (tables : Tables) where
           let covered = subst (λ l. Covered l layer (x -ℤ call.x) (y -ℤ call.y)) same c.covered in
           down one.row one.col call one.is_row one.is_col one.is_call.stands ((drawn.draws.squares layer (x -ℤ call.x) (y -ℤ call.y)).0 covered)
 
-      from_calls : (calls : List Call) → ((call : Call) → Among calls call → Among chip.calls call) → CalledAt chip.kinds calls layer x y → Covers
-          whole layer x y
+      from_calls : (calls : List Call) → ((call : Call) → Among calls call → Among chip.calls call) → CalledAt chip.kinds calls layer x y → Covers whole layer x y
       from_calls [] all c = absurd c
       from_calls (call ∷ calls) all (inl c) = from_call call (all call (inl refl)) c
       from_calls (call ∷ calls) all (inr c) = from_calls calls (λ k among. all k (inr among)) c
@@ -107,13 +98,19 @@ module _ (sheet : Sheet) (tree : TreeTable) (tables : Tables) where
       called_at (first ∷ calls) call (inr among) covers = inr (called_at calls call among covers)
 
       to_call : (row col r c : ℕ) → row < sheet.rows → col < sheet.cols → r < side → c < side
-          → Covered (boxes (tree_tile sheet tree tables (row * side + r) (col * side + c))) layer (local_x (col * side + c) x)
-          (local_y whole (row * side + r) y)
+          → Covered (boxes (tree_tile sheet tree tables (row * side + r) (col * side + c))) layer (local_x (col * side + c) x) (local_y whole (row * side + r) y)
           → CalledAt chip.kinds chip.calls layer x y
       to_call row col r c is_row is_col is_r is_c h = elim (is.places row col is_row is_col) [
         | inl none ↦
-            let call : Call = record { kind = 0; x = pos (14 * side * col); y = pos (14 * side * (sheet.rows - 1 - row)) } in
-            absurd (none layer (x -ℤ call.x) (y -ℤ call.y) (up row col r c call is_row is_r is_c (record { x = refl; y = refl }) h))
+            let at = record {
+              row = r;
+              col = c;
+              is_row = is_r;
+              is_col = is_c;
+              covered = subst (λ (t : ℕ). Covered (boxes t) layer (local_x c (x -ℤ pos (14 * side * col))) (local_y (part row col) r (y -ℤ pos (14 * side * (sheet.rows - 1 - row))))) (tile_is row col r c is_r is_c)
+          (subst (λ (v : ℤ). Covered (boxes (tree_tile sheet tree tables (row * side + r) (col * side + c))) layer (local_x c (x -ℤ pos (14 * side * col))) v) (sym (upward row col r (pos (14 * side * (sheet.rows - 1 - row))) is_row is_r refl))
+          (subst (λ (u : ℤ). Covered (boxes (tree_tile sheet tree tables (row * side + r) (col * side + c))) layer u (local_y whole (row * side + r) y)) (sym (across col c (pos (14 * side * col)) refl)) h)) } in
+            absurd (none layer (x -ℤ pos (14 * side * col)) (y -ℤ pos (14 * side * (sheet.rows - 1 - row))) at)
         | inr some ↦
             let call = some.0 in
             let drawn = some.2.drawn in
@@ -129,10 +126,8 @@ module _ (sheet : Sheet) (tree : TreeTable) (tables : Tables) where
           let some : 0 < side = omega arith in
           to_call (h.row / side) (h.col / side) (h.row % side) (h.col % side) (is_block side sheet.rows h.row some h.is_row)
           (is_block side sheet.cols h.col some h.is_col) (is_rest side h.row some) (is_rest side h.col some)
-          (subst (λ (a : ℕ). Covered (boxes (tree_tile sheet tree tables a (h.col / side * side + h.col % side))) layer
-          (local_x (h.col / side * side + h.col % side) x) (local_y whole a y)) (sym (whole_of side h.row))
-          (subst (λ (b : ℕ). Covered (boxes (tree_tile sheet tree tables h.row b)) layer (local_x b x) (local_y whole h.row y))
-          (sym (whole_of side h.col)) h.covered))
+          (subst (λ (a : ℕ). Covered (boxes (tree_tile sheet tree tables a (h.col / side * side + h.col % side))) layer (local_x (h.col / side * side + h.col % side) x) (local_y whole a y)) (sym (whole_of side h.row))
+          (subst (λ (b : ℕ). Covered (boxes (tree_tile sheet tree tables h.row b)) layer (local_x b x) (local_y whole h.row y)) (sym (whole_of side h.col)) h.covered))
 
 pub tree_chips_cover : (sheet : Sheet) (tree : TreeTable) (tables : Tables) (chip : ChipShape) → IsTreeChip sheet tree tables chip
     → (layer : Layer) (x y : ℤ) → ChipCovers chip layer x y ↔ Covers (tree_plan sheet tree tables) layer x y

@@ -27,5 +27,3 @@ pub mod Made
 pub mod Within
 pub mod Adding
 pub mod LabelPlaces
-pub mod Answered
-pub mod Signed

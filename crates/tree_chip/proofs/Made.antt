@@ -1,10 +1,11 @@
 -- The numbers of all blocks make a chip of the layout.
-use Rattle.std.proofs.Common.{◌≡◌, inl, inr, ℕ, zero, suc, ◌+◌, ◌-◌, ◌*◌, ◌/◌, ◌%◌, ◌<◌, ◌≤◌, pos, Option, Some, None, List, [], ◌∷◌, All, length, get_or, slice_get, refl, sym, ap, subst, ◌∙◌, arith}
+use Rattle.std.proofs.Common.{◌≡◌, ◌≢◌, ◌⊎◌, inl, inr, ℕ, zero, suc, ◌+◌, ◌-◌, ◌*◌, ◌/◌, ◌%◌, ◌<◌, ◌≤◌, pos, Option, Some, None, List, [], ◌∷◌, ◌++◌, All, length, get_or, slice_get, refl, sym, ap, subst, ◌∙◌, arith}
 use Rattle.std.proofs.lemmas.Bool.{cases_lt}
-use Rattle.std.proofs.lemmas.Nat.{div-add-mod', div_below, mod_below}
+use Rattle.std.proofs.lemmas.Nat.{mul-add-lt, div-add-mod', div_below, mod_below}
 use Rattle.std.proofs.lemmas.Option.{slice_get-get_or}
 use Rattle.geom.specs.declared.chip.Call.{Call}
 use Rattle.geom.specs.declared.chip.Label.{Label}
+use Rattle.geom.specs.Squares.{BoxShape}
 use Rattle.geom.specs.Rows.{Among}
 use Rattle.geom.specs.Chips.{ChipShape}
 use Rattle.geom.specs.Merged.{MergedOnce}
@@ -12,18 +13,21 @@ use Rattle.rx_lang.specs.Tables.{Tables}
 use Rattle.star_normal.specs.Tables.{TreeTable}
 use Rattle.block_grid.specs.declared.kind.Turn.TheVariants.{NorthEast, NorthWest, SouthEast, SouthWest}
 use Rattle.block_grid.specs.declared.kind.BlockKind.{BlockKind}
-use Rattle.block_grid.specs.declared.kind.BlockKind.TheVariants.{Empty}
+use Rattle.block_grid.specs.declared.kind.BlockKind.TheVariants.{Empty, Horizontal, Vertical, Cross, Corner, Node, Frame}
 use Rattle.block_grid.specs.Sheets.{Sheet, block_at}
 use Rattle.block_grid.specs.Raster.{AreKinds}
+use Rattle.cell_network.specs.Parts.{counts_of}
+use Rattle.node_cell.specs.Blocks.{block_side}
 use Rattle.node_cell.specs.BlockTiles.{block_plan}
 use Rattle.tree_chip.specs.TreePlans.{IsSheetOf}
 use Rattle.tree_chip.specs.TreeChips.{IsNumbered, block_width, IsTreeChip, IsCalled, CallsBlock}
 use Rattle.tree_chip.specs.KindNumbers.{AreCellNumbers, AreWireNumbers, cell_kind, wire_kinds, number_at, calls_in_rows, IsCellWithin}
+use Rattle.tree_chip.proofs.Members.{among_at}
 use Rattle.tree_chip.proofs.TreeEdges.{IsOrder}
 use Rattle.tree_chip.proofs.OnSheet.{IsKindOf, cell, empty, horizontal, vertical, cross, corner, kind_known, is_within, cell_of, frame_of, node_placed}
 use Rattle.tree_chip.proofs.Numbering.{Kinds, still_numbered}
 use Rattle.tree_chip.proofs.SharedKinds.{in_runs, bare_blocks, shares_kinds}
-use Rattle.tree_chip.proofs.CalledPlaces.{all_calls, all_distinct, all_called, related_pairs}
+use Rattle.tree_chip.proofs.CalledPlaces.{Puts, PutsIn, all_calls, all_distinct, all_called, related_pairs}
 
 some_is : {X : Type 0} (o : X) (p : X) → ◌≡◌ {A = _} (Some o) (Some p) → o ≡ p
 some_is o p e = cc
@@ -38,13 +42,10 @@ all_within sheet tree of order places are k d below =
     let col_below : k % sheet.cols < sheet.cols = mod_below k sheet.cols some in
     let there = are.each (k / sheet.cols) (k % sheet.cols) row_below col_below in
     let same = ap (slice_get places) (div-add-mod' k sheet.cols) ∙ slice_get-get_or places k d below in
-    let is : block_at sheet (k / sheet.cols) (k % sheet.cols) ≡ get_or places k d = some_is (block_at sheet (k / sheet.cols) (k % sheet.cols))
-    (get_or places k d) (sym there ∙ same) in
-    subst (IsCellWithin (length tree.nodes + 1)) is (is_within tree (block_at sheet (k / sheet.cols) (k % sheet.cols))
-    (kind_known tree sheet of order (k / sheet.cols) (k % sheet.cols)))
+    let is : block_at sheet (k / sheet.cols) (k % sheet.cols) ≡ get_or places k d = some_is (block_at sheet (k / sheet.cols) (k % sheet.cols)) (get_or places k d) (sym there ∙ same) in
+    subst (IsCellWithin (length tree.nodes + 1)) is (is_within tree (block_at sheet (k / sheet.cols) (k % sheet.cols)) (kind_known tree sheet of order (k / sheet.cols) (k % sheet.cols)))
 
-module _ (sheet : Sheet) (tree : TreeTable) (tables : Tables) (of : IsSheetOf tree sheet) (order : IsOrder tree) (places : List BlockKind)
-    (are : AreKinds sheet places)
+module _ (sheet : Sheet) (tree : TreeTable) (tables : Tables) (of : IsSheetOf tree sheet) (order : IsOrder tree) (places : List BlockKind) (are : AreKinds sheet places)
     (first kinds : Kinds) (cells wires : List (Option ℕ)) (c : AreCellNumbers tree tables first cells (length tree.nodes + 1))
     (w : AreWireNumbers tree tables places first kinds wires 8) where
   abbrev number : ℕ → ℕ → Option ℕ
@@ -81,8 +82,7 @@ module _ (sheet : Sheet) (tree : TreeTable) (tables : Tables) (of : IsSheetOf tr
   each_block _ (corner SouthEast) m = w.each 6 (omega arith) m
   each_block _ (corner SouthWest) m = w.each 7 (omega arith) m
 
-  each_place : (row col : ℕ) → row < sheet.rows → col < sheet.cols → IsNumbered kinds (block_plan tree tables (block_at sheet row col))
-      (number row col)
+  each_place : (row col : ℕ) → row < sheet.rows → col < sheet.cols → IsNumbered kinds (block_plan tree tables (block_at sheet row col)) (number row col)
   each_place row col is_row is_col =
       each_block (block_at sheet row col) (kind_known tree sheet of order row col)
       (slice_among places (row * sheet.cols + col) (block_at sheet row col) (are.each row col is_row is_col))
@@ -119,14 +119,14 @@ module _ (sheet : Sheet) (tree : TreeTable) (tables : Tables) (of : IsSheetOf tr
       }
 
   wire_number : (i : ℕ) → i < 8 → number_at wires cells (get_or wire_kinds i Empty) ≡ get_or wires i None
-  wire_number zero h = refl
-  wire_number (suc zero) h = refl
-  wire_number (suc (suc zero)) h = refl
-  wire_number (suc (suc (suc zero))) h = refl
-  wire_number (suc (suc (suc (suc zero)))) h = refl
-  wire_number (suc (suc (suc (suc (suc zero))))) h = refl
-  wire_number (suc (suc (suc (suc (suc (suc zero)))))) h = refl
-  wire_number (suc (suc (suc (suc (suc (suc (suc zero))))))) h = refl
+  wire_number 0 h = refl
+  wire_number 1 h = refl
+  wire_number 2 h = refl
+  wire_number 3 h = refl
+  wire_number 4 h = refl
+  wire_number 5 h = refl
+  wire_number 6 h = refl
+  wire_number 7 h = refl
   wire_number (suc (suc (suc (suc (suc (suc (suc (suc i)))))))) h = absurd (omega arith)
 
   -- each kind is that of a block at some place
@@ -166,14 +166,12 @@ module _ (sheet : Sheet) (tree : TreeTable) (tables : Tables) (of : IsSheetOf tr
         is_col = at.is_col;
         is_call = record {
           stands = record { x = at.puts.x; y = at.puts.y };
-          drawn = subst (IsNumbered kinds (block_plan tree tables (block_at sheet k.0 at.col))) at.puts.kind
-              (each_place k.0 at.col row_below at.is_col);
+          drawn = subst (IsNumbered kinds (block_plan tree tables (block_at sheet k.0 at.col))) at.puts.kind (each_place k.0 at.col row_below at.is_col);
         };
       }
 
   module _ (labels : List Label) where
-    place_called : (row col : ℕ) → row < sheet.rows → col < sheet.cols → IsCalled sheet tree tables
-        (record { kinds = kinds; calls = calls; labels = labels }) row col
+    place_called : (row col : ℕ) → row < sheet.rows → col < sheet.cols → IsCalled sheet tree tables (record { kinds = kinds; calls = calls; labels = labels }) row col
     place_called row col is_row is_col = by (number row col) refl (each_place row col is_row is_col)
       where
         by : (n : Option ℕ) → number row col ≡ n → IsNumbered kinds (block_plan tree tables (block_at sheet row col)) n
@@ -191,7 +189,8 @@ module _ (sheet : Sheet) (tree : TreeTable) (tables : Tables) (of : IsSheetOf tr
     kind_called : (kind : ℕ) → kind < length kinds → (call : Call) × Among calls call × (call.kind ≡ kind)
     kind_called kind below =
         let p = kind_placed kind below in
-        let is_row = p.2 in (
+        let is_row = p.2 in
+        (
           record { kind = kind; x = pos (width * p.1); y = pos (width * (sheet.rows - 1 - p.0)) },
           all_called width sheet.rows sheet.cols wide number 0 sheet.rows p.0 p.1 kind (omega arith) (omega (arith, is_row)) p.3 p.4,
           refl,
@@ -209,24 +208,3 @@ module _ (sheet : Sheet) (tree : TreeTable) (tables : Tables) (of : IsSheetOf tr
       some = w.different.some;
       called = kind_called;
     }
-
-    -- so is a chip of these calls
-    pub chip_of : MergedOnce → (found : List Call) → found ≡ calls → (made : ChipShape) → made ≡ record
-        { kinds = kinds; calls = found; labels = labels }
-        → IsTreeChip sheet tree tables made
-    chip_of once found same made is =
-        subst (IsTreeChip sheet tree tables) (sym is)
-        (subst (λ l. IsTreeChip sheet tree tables (record { kinds = kinds; calls = l; labels = labels })) (sym same) (is_tree_chip once))
-
--- the calls by equal numbers are equal
-pub same_calls : (sheet : Sheet) (found : List Call) (broad width : ℕ) (some wires others cells : List (Option ℕ))
-    → found ≡ calls_in_rows broad sheet.rows sheet.cols (λ row col. number_at some others (block_at sheet row col)) sheet.rows
-    → broad ≡ width → some ≡ wires → others ≡ cells
-    → found ≡ calls_in_rows width sheet.rows sheet.cols (λ row col. number_at wires cells (block_at sheet row col)) sheet.rows
-same_calls sheet found broad width some wires others cells is same_width same_wires same_cells =
-    is
-    ∙ ap (λ (n : ℕ). calls_in_rows n sheet.rows sheet.cols (λ row col. number_at some others (block_at sheet row col)) sheet.rows) same_width
-    ∙ ap (λ (l : List (Option ℕ)). calls_in_rows width sheet.rows sheet.cols (λ row col. number_at l others (block_at sheet row col)) sheet.rows)
-    same_wires
-    ∙ ap (λ (l : List (Option ℕ)). calls_in_rows width sheet.rows sheet.cols (λ row col. number_at wires l (block_at sheet row col)) sheet.rows)
-    same_cells

@@ -1,5 +1,6 @@
 -- Kinds that gain one, or none.
-use Rattle.std.proofs.Common.{◌≡◌, ◌≢◌, ◌↔◌, ℤ, inl, inr, ℕ, zero, suc, ◌+◌, ◌<◌, ◌≤◌, Option, Some, None, List, [], ◌∷◌, ◌++◌, length, get_or, slice_get, refl, sym, ap, subst, ◌∙◌, arith, append_assoc}
+use Rattle.std.proofs.Common.{◌≡◌, ◌≢◌, ◌↔◌, ◌⊎◌, ℤ, inl, inr, ℕ, zero, suc, ◌+◌, ◌<◌, ◌≤◌, Option, Some, None, List, [], ◌∷◌, ◌++◌, length, get_or, slice_get, All, refl, sym, ap, subst, ◌∙◌, arith, append_assoc}
+use Rattle.std.specs.Prelude.{AllPairs}
 use Rattle.std.proofs.lemmas.Bool.{cases_lt}
 use Rattle.std.proofs.lemmas.List.{length-append, get_or_append_left, get_or-append-add, append-nil}
 use Rattle.geom.specs.declared.layer.Layer.{Layer}
@@ -13,12 +14,12 @@ use Rattle.stick_grid.specs.Windows.{HaveSameTiles, SameTilesAgree}
 use Rattle.block_grid.specs.declared.kind.BlockKind.{BlockKind}
 use Rattle.block_grid.specs.declared.kind.BlockKind.TheVariants.{Empty}
 use Rattle.node_cell.specs.BlockTiles.{block_plan}
-use Rattle.tree_chip.specs.TreeChips.{IsNumbered, DrawsPlan}
-use Rattle.tree_chip.specs.KindNumbers.{AreCellNumbers, AreDifferent, AreWireNumbers, GainsKind, IsKindNumber, cell_kind, wire_kinds}
+use Rattle.tree_chip.specs.TreeChips.{IsDrawnBy, IsNumbered, IsKindNumber, DrawsPlan}
+use Rattle.tree_chip.specs.KindNumbers.{AreDifferent, GainsKind, AreCellNumbers, AreWireNumbers, cell_kind, wire_kinds}
 use Rattle.tree_chip.proofs.SameBlocks.{same_block}
 use Rattle.tree_chip.specs.Signatures.{signature_of}
 
-abbrev pub Kinds : Type 0
+abbrev Kinds : Type 0
 Kinds = List (List BoxShape)
 
 pub front : {X : Type 0} (xs ys : List X) (k : ℕ) (x : X) → slice_get xs k ≡ Some x → slice_get (xs ++ ys) k ≡ Some x
@@ -66,14 +67,13 @@ module _ (old new : Kinds) (number : Option ℕ) (g : GainsKind old new number) 
     | inr more ↦ subst AreDifferent (sym more.0) (record {
       differ = λ i j d less below e.
           let long = length-append old (g.boxes ∷ []) in
-          let first : get_or (old ++ g.boxes ∷ []) i d ≡ get_or old i d = get_or_append_left old (g.boxes ∷ []) d i
-          (omega (arith, less, below, long)) in
+          let first : get_or (old ++ g.boxes ∷ []) i d ≡ get_or old i d = get_or_append_left old (g.boxes ∷ []) d i (omega (arith, less, below, long)) in
           elim (cases_lt j (length old)) [
             | inl k ↦ h.differ i j d less k (sym first ∙ e ∙ get_or_append_left old (g.boxes ∷ []) d j k)
             | inr k ↦
                 let place : j ≡ length old + 0 = omega (arith, below, long, k) in
                 let last = ap (λ (n : ℕ). get_or (old ++ g.boxes ∷ []) n d) place ∙ get_or-append-add old (g.boxes ∷ []) 0 d in
-                more.3 i d (omega (arith, less, place)) (sym first ∙ e ∙ last)
+                more.2.1 i d (omega (arith, less, place)) (sym first ∙ e ∙ last)
           ];
       some = λ j d below e.
           let long = length-append old (g.boxes ∷ []) in
@@ -82,14 +82,13 @@ module _ (old new : Kinds) (number : Option ℕ) (g : GainsKind old new number) 
             | inr k ↦
                 let place : j ≡ length old + 0 = omega (arith, below, long, k) in
                 let last = ap (λ (n : ℕ). get_or (old ++ g.boxes ∷ []) n d) place ∙ get_or-append-add old (g.boxes ∷ []) 0 d in
-                more.2 (sym last ∙ e)
+                more.2.0 (sym last ∙ e)
           ];
     })
   ]
 
 -- where the boxes are a kind, so they are where they were given a number
-pub numbered_gain : (old new : Kinds) (boxes : List BoxShape) (number : ℕ) → IsKindNumber old boxes number new → boxes ≢ [] → GainsKind old new
-    (Some number)
+pub numbered_gain : (old new : Kinds) (boxes : List BoxShape) (number : ℕ) → IsKindNumber old boxes number new → boxes ≢ [] → GainsKind old new (Some number)
 numbered_gain old new boxes number h some = record {
   boxes = boxes;
   grown = elim h.grown [ inl same ↦ inl same | inr more ↦ inr (more.0, ap Some more.1, some, more.2) ];
@@ -169,8 +168,7 @@ module _ (tree : TreeTable) (tables : Tables) where
     different = record { differ = λ i j d less below e. absurd (omega (arith, below)); some = λ j d below e. absurd (omega (arith, below)) };
   }
 
-  module _ (places : List BlockKind) (first old new : Kinds) (numbers : List (Option ℕ)) (n : ℕ) (number : Option ℕ)
-      (h : AreWireNumbers tree tables places first old numbers n) where
+  module _ (places : List BlockKind) (first old new : Kinds) (numbers : List (Option ℕ)) (n : ℕ) (number : Option ℕ) (h : AreWireNumbers tree tables places first old numbers n) where
     abbrev kind_of : ℕ → BlockKind
     kind_of i = get_or wire_kinds i Empty
 

@@ -1,6 +1,6 @@
 -- What stands at the places of a tree's sheet.
-use Rattle.std.proofs.Common.{◌≡◌, inl, inr, ℕ, suc, ◌+◌, ◌<◌, ◌≤◌, Bool, true, false, cond, ◌&&◌, ◌==◌, nat_lt, Option, Some, None, List, [], ◌∷◌, length, get_or, refl, sym, ap, subst, ◌∙◌, arith, eq-eqb}
-use Rattle.std.specs.Prelude.{if◌then◌else◌}
+use Rattle.std.proofs.Common.{◌≡◌, ◌≢◌, ◌⊎◌, inl, inr, ℕ, zero, suc, ◌+◌, ◌*◌, ◌<◌, ◌≤◌, Bool, true, false, cond, ◌&&◌, ◌==◌, nat_lt, Option, Some, None, List, [], ◌∷◌, ◌++◌, length, get_or, All, refl, sym, ap, subst, ◌∙◌, arith, eq-eqb}
+use Rattle.std.specs.Prelude.{AllPairs, find, slice_get, if◌then◌else◌}
 use Rattle.std.specs.Option.{option_map_or}
 use Rattle.std.proofs.lemmas.Bool.{eqb-true, lt-ltb, le-ltb, and_parts, cases_eq, cases_lt}
 use Rattle.geom.specs.Rows.{Among}
@@ -8,7 +8,8 @@ use Rattle.star_normal.specs.Tables.{TreeTable}
 use Rattle.block_grid.specs.declared.standing.Standing.{Standing}
 use Rattle.block_grid.specs.declared.kind.BlockKind.{BlockKind}
 use Rattle.block_grid.specs.declared.kind.BlockKind.TheVariants.{Empty, Horizontal, Vertical, Cross, Corner, Node, Frame}
-use Rattle.block_grid.specs.Sheets.{Sheet, node_on, node_kind, block_at, wire_kind, is_crossed_north, is_crossed_west}
+use Rattle.block_grid.specs.Sheets.{Sheet, IsSheet, node_on, node_kind, block_at, wire_kind, is_crossed_north, is_crossed_west}
+use Rattle.light_order.specs.Order.{frame}
 use Rattle.node_cell.specs.Blocks.{IsBlockOf}
 use Rattle.tree_chip.specs.TreePlans.{IsSheetOf}
 use Rattle.tree_chip.specs.KindNumbers.{cell_kind, IsCellWithin}
@@ -90,28 +91,23 @@ module _ (tree : TreeTable) (sheet : Sheet) (of : IsSheetOf tree sheet) (order :
   known_kind : (node : Standing) → Among sheet.nodes node → (node.node ≤ length tree.nodes) × (node_kind node ≡ cell_kind tree node.node)
   known_kind node among =
       let known = node_known tree sheet of order node among in
-      let low = known.known in (
-        known.known,
-        elim (cases_eq node.node (length tree.nodes)) [
-          | inl same ↦
-              ap (λ (b : Bool). cond b (Frame node.node) (Node node.node)) (known.frame_is ∙ eq-eqb node.node (length tree.nodes) same) ∙ sym
-              (frame_of tree node.node same)
-          | inr ne ↦
-              ap (λ (b : Bool). cond b (Frame node.node) (Node node.node)) (known.frame_is ∙ other_number node.node (length tree.nodes) ne)
-              ∙ sym (cell_of tree node.node (omega (arith, low, ne)))
-        ],
-      )
+      let low = known.known in
+      (known.known, elim (cases_eq node.node (length tree.nodes)) [
+        | inl same ↦
+            ap (λ (b : Bool). cond b (Frame node.node) (Node node.node)) (known.frame_is ∙ eq-eqb node.node (length tree.nodes) same) ∙ sym (frame_of tree node.node same)
+        | inr ne ↦
+            ap (λ (b : Bool). cond b (Frame node.node) (Node node.node)) (known.frame_is ∙ other_number node.node (length tree.nodes) ne)
+            ∙ sym (cell_of tree node.node (omega (arith, low, ne)))
+      ])
 
   abbrev wires_at : ℕ → ℕ → BlockKind
-  wires_at r c = wire_kind (is_crossed_north sheet r c) (is_crossed_north sheet (r + 1) c) (is_crossed_west sheet r c)
-      (is_crossed_west sheet r (c + 1))
+  wires_at r c = wire_kind (is_crossed_north sheet r c) (is_crossed_north sheet (r + 1) c) (is_crossed_west sheet r c) (is_crossed_west sheet r (c + 1))
 
   pub kind_known : (r c : ℕ) → IsKindOf tree (block_at sheet r c)
   kind_known r c = by (node_on sheet.nodes r c) refl
     where
       by : (o : Option Standing) → node_on sheet.nodes r c ≡ o → IsKindOf tree (option_map_or node_kind o (wires_at r c))
-      by None is = wire_is tree (is_crossed_north sheet r c) (is_crossed_north sheet (r + 1) c) (is_crossed_west sheet r c)
-          (is_crossed_west sheet r (c + 1))
+      by None is = wire_is tree (is_crossed_north sheet r c) (is_crossed_north sheet (r + 1) c) (is_crossed_west sheet r c) (is_crossed_west sheet r (c + 1))
       by (Some node) is =
           let among = (found_among (at_place r c) sheet.nodes node is).0 in
           let known = known_kind node among in
@@ -137,14 +133,12 @@ module _ (tree : TreeTable) (sheet : Sheet) (of : IsSheetOf tree sheet) (order :
       let j = index_of sheet.nodes other k in
       let apart = of.is_sheet.places_once in
       elim (cases_lt i.0 j.0) [
-        | inl less ↦ absurd (apart i.0 j.0 node less j.1 (ap (λ (n : Standing). n.row) (i.2 node) ∙ sym rows ∙ ap (λ (n : Standing). n.row)
-            (sym (j.2 node)))
-            (ap (λ (n : Standing). n.col) (i.2 node) ∙ sym cols ∙ ap (λ (n : Standing). n.col) (sym (j.2 node))))
+        | inl less ↦ absurd (apart i.0 j.0 node less j.1 (ap (λ (n : Standing). n.row) (i.2 node) ∙ sym rows ∙ ap (λ (n : Standing). n.row) (sym (j.2 node)))
+          (ap (λ (n : Standing). n.col) (i.2 node) ∙ sym cols ∙ ap (λ (n : Standing). n.col) (sym (j.2 node))))
         | inr low ↦ elim (cases_eq i.0 j.0) [
           | inl same ↦ sym (j.2 node) ∙ ap (λ (n : ℕ). get_or sheet.nodes n node) (sym same) ∙ i.2 node
-          | inr ne ↦ absurd (apart j.0 i.0 node (omega (arith, low, ne)) i.1
-              (ap (λ (n : Standing). n.row) (j.2 node) ∙ rows ∙ ap (λ (n : Standing). n.row) (sym (i.2 node)))
-              (ap (λ (n : Standing). n.col) (j.2 node) ∙ cols ∙ ap (λ (n : Standing). n.col) (sym (i.2 node))))
+          | inr ne ↦ absurd (apart j.0 i.0 node (omega (arith, low, ne)) i.1 (ap (λ (n : Standing). n.row) (j.2 node) ∙ rows ∙ ap (λ (n : Standing). n.row) (sym (i.2 node)))
+            (ap (λ (n : Standing). n.col) (j.2 node) ∙ cols ∙ ap (λ (n : Standing). n.col) (sym (i.2 node))))
         ]
       ]
 

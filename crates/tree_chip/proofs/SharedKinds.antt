@@ -1,5 +1,5 @@
 -- The kinds of a chip of blocks: their boxes are in runs, blocks of the same squares share one, and blocks without squares have none.
-use Rattle.std.proofs.Common.{◌≡◌, ◌≢◌, ◌↔◌, inl, inr, ℕ, zero, suc, ◌-◌, ◌*◌, ◌<◌, ℤ, pos, Some, List, [], ◌∷◌, All, length, slice_get, refl, sym, ap, subst, ◌∙◌, arith}
+use Rattle.std.proofs.Common.{◌≡◌, ◌≢◌, ◌↔◌, inl, inr, ℕ, zero, suc, ◌+◌, ◌-◌, ◌*◌, ◌<◌, ◌≤◌, ℤ, pos, Some, List, [], ◌∷◌, All, length, get_or, slice_get, refl, sym, ap, subst, ◌∙◌, arith}
 use Rattle.std.specs.Prelude.{AllPairs}
 use Rattle.std.proofs.lemmas.Int.{ints}
 use Rattle.std.proofs.lemmas.Bool.{cases_eq, cases_lt}
@@ -42,15 +42,12 @@ has_square (b ∷ boxes) runs some = record {
   layer = b.layer;
   x = b.x1;
   y = b.y1;
-  covered = inl (
-    refl,
-    record {
-      left = omega (arith, ints);
-      right = runs.0.across.order;
-      bottom = omega (arith, ints);
-      top = runs.0.upward.order;
-    },
-  );
+  covered = inl (refl, record {
+    left = omega (arith, ints);
+    right = runs.0.across.order;
+    bottom = omega (arith, ints);
+    top = runs.0.upward.order;
+  });
 }
 
 module _ (sheet : Sheet) (tree : TreeTable) (tables : Tables) (chip : ChipShape)
@@ -101,7 +98,6 @@ module _ (sheet : Sheet) (tree : TreeTable) (tables : Tables) (chip : ChipShape)
           λ h. (q.draws.squares layer x y).1 ((same layer x y).0 ((p.draws.squares layer x y).0 h)),
           λ h. (p.draws.squares layer x y).1 ((same layer x y).1 ((q.draws.squares layer x y).0 h)),
         ) in
-        let equal : p.boxes ≡ q.boxes = once.one p.boxes q.boxes p.boxes q.boxes
-        (record { same = λ layer x y. (λ h. h, λ h. h); runs = p.draws.runs })
+        let equal : p.boxes ≡ q.boxes = once.one p.boxes q.boxes p.boxes q.boxes (record { same = λ layer x y. (λ h. h, λ h. h); runs = p.draws.runs })
         (record { same = λ layer x y. (λ h. h, λ h. h); runs = q.draws.runs }) squares in
         one_number a.kind b.kind p.boxes p.kind (q.kind ∙ ap Some (sym equal))

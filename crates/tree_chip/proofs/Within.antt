@@ -1,5 +1,5 @@
 -- The kinds of a chip of blocks lie in blocks.
-use Rattle.std.proofs.Common.{◌≡◌, inl, inr, ℕ, ◌*◌, ◌<◌, ℤ, pos, ◌-ℤ◌, ◌≤ℤ◌, ◌<ℤ◌, List, [], ◌∷◌, slice_get, Some, All, refl, sym, ap, subst, ◌∙◌, arith}
+use Rattle.std.proofs.Common.{◌≡◌, inl, inr, ℕ, ◌+◌, ◌-◌, ◌*◌, ◌<◌, ℤ, pos, ◌+ℤ◌, ◌-ℤ◌, ◌≤ℤ◌, ◌<ℤ◌, List, [], ◌∷◌, slice_get, Some, All, length, refl, sym, ap, subst, ◌∙◌, arith}
 use Rattle.std.proofs.lemmas.Int.{ints}
 use Rattle.std.proofs.lemmas.Option.{get_or_from_slice_get}
 use Rattle.std.proofs.lemmas.List.Elements.{All-nil, All-cons}
@@ -18,40 +18,28 @@ use Rattle.node_cell.specs.BlockTiles.{block_plan}
 use Rattle.tree_chip.specs.TreeChips.{block_width, IsTreeChip, KindsAreBlocks}
 
 -- The square lies in so many rows and columns of squares.
-pub record LiesIn (width : ℕ) (x y : ℤ) : Type 0 where
-  pub left : pos 0 ≤ℤ x
-  pub right : x <ℤ pos width
-  pub bottom : pos 0 ≤ℤ y
-  pub top : y <ℤ pos width
+record LiesIn (width : ℕ) (x y : ℤ) : Type 0 where
+  left : pos 0 ≤ℤ x
+  right : x <ℤ pos width
+  bottom : pos 0 ≤ℤ y
+  top : y <ℤ pos width
 
 abbrev IsIn : ℕ → BoxShape → Type 0
 IsIn width b = (pos 0 ≤ℤ b.x1) × (b.x2 ≤ℤ pos width) × (pos 0 ≤ℤ b.y1) × (b.y2 ≤ℤ pos width)
 
-boxes_in : (width : ℕ) (boxes : List BoxShape) → InRuns boxes → ((layer : Layer) (x y : ℤ) → Covered boxes layer x y → LiesIn width x y) → All
-    (IsIn width) boxes
+boxes_in : (width : ℕ) (boxes : List BoxShape) → InRuns boxes → ((layer : Layer) (x y : ℤ) → Covered boxes layer x y → LiesIn width x y) → All (IsIn width) boxes
 boxes_in width [] runs lies = All-nil (IsIn width)
 boxes_in width (b ∷ boxes) runs lies =
     let is = runs.0 in
     let across = is.across.order in
     let upward = is.upward.order in
-    let first = lies b.layer b.x1 b.y1 (inl (
-      refl,
-      record {
-        left = omega (arith, ints);
-        right = across;
-        bottom = omega (arith, ints);
-        top = upward;
-      },
-    )) in
-    let last = lies b.layer (b.x2 -ℤ pos 1) (b.y2 -ℤ pos 1) (inl (
-      refl,
-      record {
-        left = omega (arith, ints, across);
-        right = omega (arith, ints);
-        bottom = omega (arith, ints, upward);
-        top = omega (arith, ints);
-      },
-    )) in
+    let first = lies b.layer b.x1 b.y1 (inl (refl, record { left = omega (arith, ints); right = across; bottom = omega (arith, ints); top = upward })) in
+    let last = lies b.layer (b.x2 -ℤ pos 1) (b.y2 -ℤ pos 1) (inl (refl, record {
+      left = omega (arith, ints, across);
+      right = omega (arith, ints);
+      bottom = omega (arith, ints, upward);
+      top = omega (arith, ints);
+    })) in
     let right = last.right in
     let top = last.top in
     All-cons (IsIn width) b boxes (first.left, omega (arith, ints, right), first.bottom, omega (arith, ints, top))

@@ -6,6 +6,7 @@ use Rattle.geom.specs.Squares.{BoxShape}
 use Rattle.geom.specs.Rows.{Among}
 use Rattle.rx_lang.specs.Tables.{Tables}
 use Rattle.star_normal.specs.Tables.{TreeTable}
+use Rattle.stick_grid.specs.Plans.{Plan}
 use Rattle.block_grid.specs.declared.kind.Turn.TheVariants.{NorthEast, NorthWest, SouthEast, SouthWest}
 use Rattle.block_grid.specs.declared.kind.BlockKind.{BlockKind}
 use Rattle.block_grid.specs.declared.kind.BlockKind.TheVariants.{Empty, Horizontal, Vertical, Cross, Corner, Node, Frame}
@@ -16,11 +17,6 @@ use Rattle.tree_chip.specs.TreeChips.{IsNumbered}
 pub record AreDifferent (kinds : List (List BoxShape)) : Type 0 where
   pub differ : AllPairs (λ a b. a ≢ b) kinds
   pub some : All (λ boxes. boxes ≢ []) kinds
-
--- The boxes are the kind of this number, and stand behind the kinds where they were none of them.
-pub record IsKindNumber (old : List (List BoxShape)) (boxes : List BoxShape) (number : ℕ) (new : List (List BoxShape)) : Type 0 where
-  pub kind : slice_get new number ≡ Some boxes
-  pub grown : (new ≡ old) ⊎ ((new ≡ old ++ boxes ∷ []) × (number ≡ length old) × All (λ kind. kind ≢ boxes) old)
 
 -- The kinds are the old ones, or there is one more, which has this number and is none of them.
 pub record GainsKind (old new : List (List BoxShape)) (number : Option ℕ) : Type 0 where
@@ -46,8 +42,7 @@ wire_kinds =
 
 -- Behind the kinds that there were each of so many blocks of bundles alone that stand among the places has the number of the kind
 -- that draws it, and each further kind has such a block.
-pub record AreWireNumbers (tree : TreeTable) (tables : Tables) (places : List BlockKind) (old kinds : List (List BoxShape))
-    (numbers : List (Option ℕ))
+pub record AreWireNumbers (tree : TreeTable) (tables : Tables) (places : List BlockKind) (old kinds : List (List BoxShape)) (numbers : List (Option ℕ))
     (n : ℕ) : Type 0 where
   pub size : length numbers ≡ n
   pub more : List (List BoxShape)

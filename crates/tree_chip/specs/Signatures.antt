@@ -1,5 +1,5 @@
 -- What the block of a node depends on.
-use Rattle.std.specs.Prelude.{ℕ, false, nat_lt, if◌then◌else◌, List, length}
+use Rattle.std.specs.Prelude.{ℕ, Bool, false, nat_lt, if◌then◌else◌, List, length}
 use Rattle.star_normal.specs.declared.node.Node.{Node}
 use Rattle.star_normal.specs.declared.node.NodeKind.{NodeKind}
 use Rattle.star_normal.specs.declared.node.NodeKind.TheVariants.{Leaf, Seq, Alt}

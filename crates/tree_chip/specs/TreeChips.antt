@@ -1,5 +1,5 @@
 -- Chips that draw the blocks of a tree's layout, with one kind for all blocks of the same squares.
-use Rattle.std.specs.Prelude.{◌≡◌, ◌≢◌, ◌↔◌, ℕ, ◌-◌, ◌*◌, ◌<◌, ◌⊎◌, ℤ, pos, ◌≤ℤ◌, Option, Some, None, List, [], length, slice_get, All, AllPairs}
+use Rattle.std.specs.Prelude.{◌≡◌, ◌≢◌, ◌↔◌, ⊤, ℕ, ◌+◌, ◌-◌, ◌*◌, ◌<◌, ◌⊎◌, ℤ, pos, ◌≤ℤ◌, Option, Some, None, List, [], ◌∷◌, ◌++◌, length, slice_get, All, AllPairs}
 use Rattle.geom.specs.declared.layer.Layer.{Layer}
 use Rattle.geom.specs.declared.chip.Call.{Call}
 use Rattle.geom.specs.Squares.{BoxShape, Covered}
@@ -9,6 +9,7 @@ use Rattle.geom.specs.Merged.{InRuns}
 use Rattle.rx_lang.specs.Tables.{Tables}
 use Rattle.star_normal.specs.Tables.{TreeTable}
 use Rattle.stick_grid.specs.Plans.{Plan, Covers}
+use Rattle.block_grid.specs.declared.kind.BlockKind.{BlockKind}
 use Rattle.block_grid.specs.Sheets.{Sheet, block_at}
 use Rattle.cell_network.specs.Parts.{counts_of}
 use Rattle.node_cell.specs.Blocks.{block_side}
@@ -67,8 +68,7 @@ SameSquares a b = (layer : Layer) (x y : ℤ) → Covers a layer x y ↔ Covers 
 -- No call stands at the place of a block without squares.
 abbrev pub BareBlocksStayOut : Sheet → TreeTable → Tables → List Call → Type 0
 BareBlocksStayOut sheet tree tables calls = (row col : ℕ) (call : Call) → row < sheet.rows → col < sheet.cols
-    → HasNoSquares (block_plan tree tables (block_at sheet row col)) → Among calls call → StandsAt (block_width tree tables) sheet.rows row col
-    call → ⊥
+    → HasNoSquares (block_plan tree tables (block_at sheet row col)) → Among calls call → StandsAt (block_width tree tables) sheet.rows row col call → ⊥
 
 -- The calls of blocks of the same squares have one kind.
 abbrev pub SharesKinds : Sheet → TreeTable → Tables → ChipShape → Type 0
@@ -94,3 +94,10 @@ pub record IsTreeChip (sheet : Sheet) (tree : TreeTable) (tables : Tables) (chip
 abbrev pub KindsAreBlocks : ℕ → ChipShape → Type 0
 KindsAreBlocks width chip =
     All (All (λ b. (pos 0 ≤ℤ b.x1) × (b.x2 ≤ℤ pos width) × (pos 0 ≤ℤ b.y1) × (b.y2 ≤ℤ pos width))) chip.kinds
+
+-- ---- numbers of kinds
+
+-- The boxes are the kind of this number, and stand behind the kinds where they were none of them.
+pub record IsKindNumber (old : List (List BoxShape)) (boxes : List BoxShape) (number : ℕ) (new : List (List BoxShape)) : Type 0 where
+  pub kind : slice_get new number ≡ Some boxes
+  pub grown : (new ≡ old) ⊎ ((new ≡ old ++ boxes ∷ []) × (number ≡ length old) × All (λ kind. kind ≢ boxes) old)

@@ -13,8 +13,8 @@ ghost use Rattle.tree_chip.specs.KindNumbers.{IsCellWithin, call_at, calls_in_ro
 ghost use Rattle.tree_chip.specs.TreePlans.{IsSheetOf, tree_labels, tree_plan};
 ghost use Rattle.tree_chip.specs.TreeChips.{IsTreeChip, KindsAreBlocks, block_width};
 
-use crate::kind_numbers::{cell_numbers, number_at, wire_numbers};
 use crate::labels::{block_side, tree_labels};
+use crate::kind_numbers::{cell_numbers, number_at, wire_numbers};
 use block_grid::{BlockKind, Blocks};
 use cell_network::Counts;
 use geom::{Call, Chip, merged_once};
@@ -36,8 +36,7 @@ pub fn chip(alloc: Global, blocks: &Blocks, tree: &Tree, spec: &Spec) -> Result<
     requires sheet { IsSheetOf tree.now blocks.now }
     requires symbols { All (λ s. s < length spec.now.symbols) (leaves (whole tree.now)) }
     ensures blocks { IfOk result (λ chip. IsTreeChip blocks.now tree.now spec.now chip) }
-    ensures squares { IfOk result (λ chip. (layer : Layer) (x y : ℤ)
-        → ChipCovers chip layer x y ↔ Covers (tree_plan blocks.now tree.now spec.now) layer x y) }
+    ensures squares { IfOk result (λ chip. (layer : Layer) (x y : ℤ) → ChipCovers chip layer x y ↔ Covers (tree_plan blocks.now tree.now spec.now) layer x y) }
     ensures few { IfOk result (λ chip. length chip.kinds < 2 ^ 16) }
     ensures within { IfOk result (KindsAreBlocks (block_width tree.now spec.now)) }
     ensures labels { IfOk result (λ chip. chip.labels ≡ tree_labels blocks.now tree.now spec.now) }

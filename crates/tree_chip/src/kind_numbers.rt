@@ -1,7 +1,6 @@
 // The kinds of a chip, and which of them draws each block.
 
-ghost use Rattle.std.specs.Prelude.{◌≡◌, ◌≢◌, ◌↔◌, ℕ, ◌+◌, ◌<◌, ◌≤◌, ◌^◌, ◌++◌, Some, [], ◌∷◌, length, slice_get, get_or};
-ghost use Rattle.std.specs.Prelude.{All, IfOk, IfSome, IfNone, IsTrue};
+ghost use Rattle.std.specs.Prelude.{◌≡◌, ◌≢◌, ◌↔◌, ℕ, ◌+◌, ◌<◌, ◌≤◌, ◌^◌, ◌++◌, Some, [], ◌∷◌, length, All, IfOk, IfSome, IfNone, IsTrue, slice_get, get_or};
 ghost use Rattle.geom.specs.Rows.{Among};
 ghost use Rattle.star_normal.specs.Tables.{whole};
 ghost use Rattle.star_normal.specs.Trees.{leaves};
@@ -9,11 +8,10 @@ ghost use Rattle.block_grid.specs.declared.kind.BlockKind.TheVariants.{Empty};
 ghost use Rattle.node_cell.specs.Blocks.{IsBlockOf};
 ghost use Rattle.node_cell.specs.BlockTiles.{block_plan};
 ghost use Rattle.tree_chip.specs.Signatures.{signature_of};
-ghost use Rattle.tree_chip.specs.TreeChips.{DrawsPlan, IsNumbered};
-ghost use Rattle.tree_chip.specs.KindNumbers.{AreCellNumbers, AreDifferent, AreWireNumbers, GainsKind, IsCellWithin, IsKindNumber};
-ghost use Rattle.tree_chip.specs.KindNumbers.{cell_kind, number_at, wire_kinds};
+ghost use Rattle.tree_chip.specs.TreeChips.{DrawsPlan, IsKindNumber, IsNumbered};
+ghost use Rattle.tree_chip.specs.KindNumbers.{AreCellNumbers, AreDifferent, AreWireNumbers, GainsKind, IsCellWithin, cell_kind, number_at, wire_kinds};
 
-use crate::signature::{Core, Signature, signature_of};
+use crate::signature::{Signature, signature_of};
 use block_grid::{BlockKind, Turn};
 use geom::{Box2, Kind, merge_runs};
 use node_cell::block;
@@ -99,30 +97,7 @@ fn cell_kind(tree: &Tree, node: u32) -> BlockKind
 fn find(signatures: &[Signature], signature: Signature) -> Option<usize>
     ensures { IfSome result (λ at. slice_get signatures.now at ≡ Some signature) }
 {
-    for at in 0..signatures.len() {
-        if same_signature(signatures[at], signature) {
-            return Some(at);
-        }
-    }
-    None
-}
-
-/// Whether the two are one signature.
-fn same_signature(one: Signature, other: Signature) -> bool
-    ensures { IsTrue result ↔ (one ≡ other) }
-{
-    same_core(one.core, other.core)
-        && one.loops == other.loops
-        && one.scan == other.scan
-        && one.marks == other.marks
-        && one.eps_marks == other.eps_marks
-}
-
-/// Whether the two are of one core.
-fn same_core(one: Core, other: Core) -> bool
-    ensures { IsTrue result ↔ (one ≡ other) }
-{
-    one == other
+    signatures.iter().position(|one| *one == signature)
 }
 
 /// The numbers of the kinds that draw the blocks of bundles alone that stand among these, if they have squares.
@@ -170,30 +145,11 @@ fn number_among(
     ensures numbered { IfOk result (λ number. Among places.now kind → IsNumbered kinds.new.items (block_plan tree.now spec.now kind) number) }
     ensures stands { IfOk result (λ number. (k : ℕ) → number ≡ Some k → Among places.now kind) }
 {
-    if stands_among(places, kind) {
+    if places.iter().any(|place| *place == kind) {
         number_of(alloc, kind, tree, spec, kinds)
     } else {
         Ok(None)
     }
-}
-
-/// Whether the block is one of these.
-fn stands_among(places: &[BlockKind], kind: BlockKind) -> bool
-    ensures { IsTrue result ↔ Among places.now kind }
-{
-    for at in 0..places.len() {
-        if same_block(places[at], kind) {
-            return true;
-        }
-    }
-    false
-}
-
-/// Whether the two blocks are of one kind.
-fn same_block(one: BlockKind, other: BlockKind) -> bool
-    ensures { IsTrue result ↔ (one ≡ other) }
-{
-    one == other
 }
 
 /// The number of the kind that draws the block, if it has squares. A kind that is new stands behind the others.
@@ -292,11 +248,7 @@ fn same_box(one: Box2, other: Box2) -> bool
 }
 
 /// The number of the kind that draws a block, by the numbers for bundles alone and those for nodes, if it has squares.
-pub(crate) fn number_at(
-    wires: &[Option<u32>],
-    cells: &[Option<u32>],
-    kind: BlockKind,
-) -> Option<u32>
+pub(crate) fn number_at(wires: &[Option<u32>], cells: &[Option<u32>], kind: BlockKind) -> Option<u32>
     requires wires { length wires.now ≡ 8 }
     requires cells { IsCellWithin (length cells.now) kind }
     ensures { result ≡ number_at wires.now cells.now kind }

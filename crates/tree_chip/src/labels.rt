@@ -1,14 +1,11 @@
 // The labels of a tree's pads.
 
-ghost use Rattle.std.specs.Prelude.{◌≡◌, ◌<◌, ◌+◌, ◌-◌, ◌*◌, ◌^◌, ◌++◌, ◌≤◌, true, false, length, map, IfOk, OnOk};
+ghost use Rattle.std.specs.Prelude.{◌≡◌, ◌<◌, ◌+◌, ◌^◌, ◌++◌, ◌≤◌, true, false, length, map, IfOk, OnOk};
 ghost use Rattle.rx_text.specs.Role.{bears_name};
 ghost use Rattle.cell_network.specs.Home.{AreFew};
 ghost use Rattle.cell_network.specs.Whole.{plain, pads_from};
-ghost use Rattle.block_grid.specs.Lines.{row_of, col_of};
-ghost use Rattle.block_grid.specs.Sheets.{IsOnSheet, IsSheet};
-ghost use Rattle.channel_route.specs.Drawing.{place_in};
 ghost use Rattle.node_cell.specs.Blocks.{block_side};
-ghost use Rattle.tree_chip.specs.Labels.{label_at};
+ghost use Rattle.tree_chip.specs.Labels.{IsLabelled, label_at};
 ghost use Rattle.tree_chip.specs.TreePlans.{frame_pads, tree_labels};
 
 use block_grid::Blocks;
@@ -31,8 +28,14 @@ pub(crate) fn tree_labels(
 ) -> Result<Vec<Label>, NoMemory>
     ensures { IfOk result (λ labels. labels.items ≡ tree_labels blocks.now tree.now spec.now) }
 {
+    nodes_stand_apart();
     let counts = Counts::of(tree, spec);
-    let corner = corner_of(blocks, counts.nodes, block_side(counts));
+    let (row, col) = blocks.place_of(counts.nodes).unwrap_or((0, 0));
+    let side = i64::from(block_side(counts));
+    let corner = Corner {
+        west: side * i64::from(col),
+        south: side * i64::from(blocks.rows() - 1 - row) + side - 1,
+    };
     let pads = frame_pads(alloc, counts, spec)?;
     labels_of(alloc, &pads, corner)
 }
@@ -49,40 +52,14 @@ pub(crate) fn block_side(counts: Counts) -> u32
 /// How many tiles lie to the west of a block, and to the south of its first row.
 #[derive(Clone, Copy, Debug, PartialEq, Eq)]
 pub(crate) struct Corner {
-    pub west: u32,
-    pub south: u32,
-}
-
-/// The corner of the block of this node, where blocks have so many rows of tiles.
-fn corner_of(blocks: &Blocks, node: u32, side: u32) -> Corner
-    requires some { 0 < side }
-    requires few { side ≤ 700 }
-    ensures west { result.west ≡ side * col_of (place_in blocks.now node) }
-    ensures south { result.south + 1 ≡ side * (blocks.now.rows - row_of (place_in blocks.now node)) }
-    ensures inside { row_of (place_in blocks.now node) < blocks.now.rows }
-{
-    let (row, col) = place_of(blocks, node);
-    Corner {
-        west: side * col,
-        south: side * (blocks.rows() - row) - 1,
-    }
-}
-
-/// The row and the column of the node, or the first ones where it is not there.
-fn place_of(blocks: &Blocks, node: u32) -> (u32, u32)
-    ensures place { result ≡ place_in blocks.now node }
-    ensures inside { IsOnSheet blocks.now result }
-    ensures sheet { IsSheet blocks.now }
-{
-    nodes_stand_apart();
-    match blocks.place_of(node) {
-        Some(place) => place,
-        None => (0, 0),
-    }
+    pub west: i64,
+    pub south: i64,
 }
 
 /// The labels of pads on nets of a part, by the corner of its block.
 fn labels_of(alloc: Global, pads: &[Pad], corner: Corner) -> Result<Vec<Label>, NoMemory>
+    requires west { IsLabelled corner.west }
+    requires south { IsLabelled corner.south }
     ensures { IfOk result (λ labels. labels.items ≡ map (label_at corner.west corner.south) pads.now) }
 {
     let mut labels = Vec::new(alloc);
@@ -94,14 +71,15 @@ fn labels_of(alloc: Global, pads: &[Pad], corner: Corner) -> Result<Vec<Label>, 
 
 /// The label of a pad on a net of a part, by the corner of its block.
 fn label_of(pad: Pad, corner: Corner) -> Label
+    requires west { IsLabelled corner.west }
+    requires south { IsLabelled corner.south }
     ensures { result ≡ label_at corner.west corner.south pad }
 {
-    let east = u64::from(corner.west) + 2 + 2 * u64::from(pad.net.0);
     Label {
         pad: pad.name,
         layer: Layer::Poly,
-        x: (14 * east + 6) as i64,
-        y: (14 * u64::from(corner.south)) as i64,
+        x: 14 * (corner.west + 2 + 2 * i64::from(pad.net.0)) + 6,
+        y: 14 * corner.south,
     }
 }
 

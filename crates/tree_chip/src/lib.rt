@@ -2,9 +2,9 @@
 #![tactic(auto)]
 
 mod drawing;
-mod kind_numbers;
 mod labels;
 pub mod laws;
+mod kind_numbers;
 mod signature;
 
 pub use drawing::chip;
