@@ -2,6 +2,8 @@
 #![tactic(auto)]
 
 #[cfg(test)]
+mod dumps;
+#[cfg(test)]
 mod faults;
 #[cfg(test)]
 mod network_texts;
@@ -13,6 +15,8 @@ mod probes;
 mod recognisers;
 #[cfg(test)]
 mod runs;
+#[cfg(test)]
+mod served;
 #[cfg(test)]
 mod streams;
 #[cfg(test)]

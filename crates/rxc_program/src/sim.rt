@@ -1,7 +1,9 @@
 // The command `sim`: a trace and a chip in, the levels of the outputs after each clock out.
 
-ghost use Rattle.std.specs.Prelude.{ℕ, ◌≡◌, ◌<◌, ◌≤◌, ◌+◌, ◌^◌, length, IfErr, IfOk};
+ghost use Rattle.std.specs.Prelude.{ℕ, ◌≡◌, ◌≢◌, ◌<◌, ◌≤◌, ◌+◌, ◌^◌, None, length, IfErr, IfOk, OnOk, OnErr, IsErrOf};
+ghost use Rattle.rx_io.specs.Causes.{Rose};
 ghost use Rattle.rx_text.specs.declared.place.Place.TheVariants.{Text};
+ghost use Rattle.switch_sim.specs.TraceLines.{GainsLines, GainsFront, first_wrong, named_wrong};
 ghost use Rattle.switch_sim.specs.TraceTexts.{IsTrace};
 ghost use Rattle.rxc_program.specs.Behaviour.{most_input_bytes};
 ghost use Rattle.rxc_program.specs.Endings.{change, CommandRun};
@@ -15,7 +17,7 @@ use rx_io::{Sink, Source};
 use rx_text::Place;
 use std::alloc::Global;
 use switch_net::Network;
-use switch_sim::{ReadTraceFault, RunFault, Trace, read_trace, run_trace};
+use switch_sim::{Asked, ReadTraceFault, RunFault, Trace, read_trace, run_trace};
 
 /// Reads a trace and a chip, runs the chip through the trace, and writes a line after each clock.
 pub(crate) fn sim<S: Source, O: Sink>(alloc: Global, src: &mut S, out: &mut O) -> Status
@@ -106,7 +108,7 @@ fn run_through<O: Sink>(alloc: Global, network: &Network, trace: &Trace, out: &m
     ensures taken { TakesLines (change O.held O.faults out.old out.new) network.now trace.now result }
     ensures count { O.faults out.old ≤ O.faults out.new }
 {
-    match run_trace(alloc, network, trace, out) {
+    match run_alone(alloc, network, trace, out) {
         Ok(()) => Status::Done,
         Err(RunFault::WrongWidth { vector }) => Status::Refused {
             code: Code::V2,
@@ -118,4 +120,26 @@ fn run_through<O: Sink>(alloc: Global, network: &Network, trace: &Trace, out: &m
         Err(RunFault::WriteFault) => Status::WriteFault,
         Err(RunFault::NoMemory) => Status::NoMemory,
     }
+}
+
+/// Runs the network through the trace, with no probes.
+fn run_alone<O: Sink>(
+    alloc: Global,
+    network: &Network,
+    trace: &Trace,
+    out: &mut O,
+) -> Result<(), RunFault>
+    ensures ok { OnOk result (GainsLines (O.held out.old) (O.held out.new) network.now trace.now) }
+    ensures width { named_wrong result ≡ first_wrong network.now trace.now }
+    ensures unwritten { first_wrong network.now trace.now ≢ None → out.new ≡ out.old }
+    ensures front { OnErr result (GainsFront (O.held out.old) (O.held out.new) network.now trace.now) }
+    ensures never_falls { O.faults out.old ≤ O.faults out.new }
+    ensures cause { IsErrOf result RunFault.WriteFault → Rose (O.faults out.old) (O.faults out.new) }
+{
+    let asked = Asked {
+        toggles: false,
+        waves: false,
+    };
+    let mut probes = Vec::new(alloc);
+    run_trace(alloc, network, trace, asked, &mut probes, out)
 }

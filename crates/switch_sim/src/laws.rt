@@ -1,5 +1,6 @@
 // What holds of the texts of traces.
 
+ghost use Rattle.switch_sim.specs.ServedParts.{EndedAreToldTheirPart, OthersAreToldAll};
 ghost use Rattle.std.specs.Prelude.{◌≡◌, ◌⊎◌, ℕ, Bool, List};
 ghost use Rattle.rx_text.specs.declared.place.Place.{Place};
 ghost use Rattle.switch_net.specs.Circuit.{Circuit};
@@ -36,3 +37,10 @@ pub fn traces_have_one_output()
 {
     ternary_runs_exist();
 }
+
+/// What a served probe is told of the samples that are due to it: the shortest front of them, of those that are not empty, that
+/// ends it, and all where there is none. It runs nothing.
+pub fn probes_are_told_in_order()
+    ensures ended { EndedAreToldTheirPart }
+    ensures others { OthersAreToldAll }
+{}
