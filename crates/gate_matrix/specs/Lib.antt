@@ -3,8 +3,10 @@ pub mod Rows
 pub mod Columns
 pub mod Cells
 pub mod Matrices
+pub mod OpenLoads
 pub mod PartRows
 pub mod Drawn
 pub mod MatrixNets
 pub mod Modules
 pub mod Examples
+pub mod SortedNets

@@ -16,13 +16,7 @@ use std::alloc::Global;
 fn onward_row(alloc: Global, kind: RowKind, metal: u32, gated: &[u32]) -> Result<Row, NoMemory>
     ensures { IfOk result (λ row. row ≡ onward_row kind metal gated.now) }
 {
-    let gated = Vec::from_slice(alloc, gated)?;
-    Ok(Row {
-        kind,
-        metal,
-        gated,
-        onward: true,
-    })
+    Row::new(alloc, kind, metal, gated, true)
 }
 
 /// A row that only carries the poly of the nets on.

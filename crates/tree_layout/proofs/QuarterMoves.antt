@@ -1,6 +1,6 @@
 -- Places that rows and columns move keep the quarters.
-use Rattle.std.proofs.Common.{◌≡◌, ◌∙◌, ◌⊎◌, ℕ, ◌+◌, ◌*◌, ◌^◌, ◌<◌, ◌≤◌, Bool, true, false, cond, List, [], ◌∷◌, ◌++◌, length, map}
-use Rattle.std.proofs.Common.{get_or, sym, ap, inl, inr, arith}
+use Rattle.std.proofs.Common.{◌≡◌, ◌∙◌, ◌⊎◌, ℕ, ◌+◌, ◌*◌, ◌^◌, ◌<◌, ◌≤◌, Bool, true, false, nat_lt, cond, List, [], ◌∷◌, ◌++◌, length, map}
+use Rattle.std.proofs.Common.{get_or, refl, sym, ap, inl, inr, arith}
 use Rattle.std.proofs.Math.Nat.{mul-le-mul_right}
 use Rattle.std.proofs.lemmas.Bool.{cases_lt, lt-ltb, le-ltb}
 use Rattle.std.proofs.lemmas.List.{get_or-map, get_or-append-add, get_or_append_left, length-map}
@@ -9,7 +9,7 @@ use Rattle.block_grid.specs.Lines.{BlockPlace, row_of, col_of}
 use Rattle.block_grid.specs.Sheets.{DrawnEdge, Sheet}
 use Rattle.block_grid.specs.Changes.{shifted, rows_shifted, cols_shifted, node_moved, with_rows, with_cols}
 use Rattle.block_grid.specs.Laying.{with_edge, edge_over}
-use Rattle.channel_route.specs.Drawing.{drawn, with_col_right_of, with_row_below, with_row_above, with_last_col, place_in, turns_in}
+use Rattle.channel_route.specs.Drawing.{drawn, with_room, with_col_right_of, with_row_below, with_row_above, with_last_col, place_in, turns_in}
 use Rattle.tree_layout.specs.declared.numbered.Entry.{Entry}
 use Rattle.tree_layout.specs.declared.links.Link.{Link}
 use Rattle.tree_layout.specs.Numbered.{node_at}

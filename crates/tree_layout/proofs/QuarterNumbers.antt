@@ -54,7 +54,7 @@ within j k z a b t u lt a4 b4 below1 below2 =
     let p = d.times in
     let some : 0 < p = let h = d.some in omega arith in
     let whole : p * (z / p) + z % p ≡ z = div-add-mod z p in
-    let less : z % p < p = mod-lt z {m = p} some in
+    let less : z % p < p = mod-lt z {p} some in
     record {
       quarter = z / p;
       rest = z % p;
@@ -65,7 +65,7 @@ within j k z a b t u lt a4 b4 below1 below2 =
     }
 
 -- the quarter of a number that is inside
-pub quarter_few : (x q n count : ℕ) → x * q + n < count → count ≤ 4 * q → x < 4
+quarter_few : (x q n count : ℕ) → x * q + n < count → count ≤ 4 * q → x < 4
 quarter_few x q n count lt few = by (cases_lt x 4)
   where
     by : (x < 4) ⊎ (4 ≤ x) → x < 4
@@ -172,7 +172,7 @@ module _ (j count : ℕ) (place : ℕ → BlockPlace) (size : ℕ → ℕ) (part
         let x = z / p in
         let r = z % p in
         let whole : p * x + r ≡ z = div-add-mod z p in
-        let small : r < p = mod-lt z {m = p} pos in
+        let small : r < p = mod-lt z {p} pos in
         let is1 : 4 * z + c ≡ x * 4 ^ j + (4 * r + c) = last_split p p x r c (4 ^ j) z e whole in
         let is2 : 4 * z + d ≡ x * 4 ^ j + (4 * r + d) = last_split p p x r d (4 ^ j) z e whole in
         let one = stands x (4 * r + c) (4 * z + c) (omega arith) is1 (omega arith) in

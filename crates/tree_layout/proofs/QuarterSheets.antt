@@ -1,13 +1,12 @@
 -- Four sheets of which each keeps the quarters are one that does.
-use Rattle.std.proofs.Common.{◌≡◌, ◌∙◌, ◌⊎◌, inl, inr, ℕ, zero, suc, ◌+◌, ◌*◌, ◌/◌, ◌%◌, ◌^◌, ◌<◌, ◌≤◌, max, List, ◌++◌, length, map, refl, sym, ap, arith}
+use Rattle.std.proofs.Common.{◌≡◌, ◌∙◌, ℕ, zero, suc, ◌+◌, ◌*◌, ◌/◌, ◌%◌, ◌^◌, ◌<◌, ◌≤◌, max, List, ◌++◌, length, map, refl, sym, ap, arith}
 use Rattle.std.proofs.Common.{length-append}
 use Rattle.std.proofs.Math.Nat.{div-add-mod, mod-lt}
-use Rattle.std.proofs.lemmas.Bool.{cases_lt}
 use Rattle.std.proofs.lemmas.List.{length-map}
 use Rattle.block_grid.specs.declared.standing.Standing.{Standing}
 use Rattle.block_grid.specs.Lines.{BlockPlace, row_of, col_of}
 use Rattle.block_grid.specs.Sheets.{Sheet}
-use Rattle.block_grid.specs.Changes.{rows_shifted, cols_shifted, node_moved}
+use Rattle.block_grid.specs.Changes.{rows_shifted, cols_shifted, node_moved, side_by_side}
 use Rattle.tree_layout.specs.Squares.{four}
 use Rattle.tree_layout.specs.Quarters.{KeepQuarters}
 use Rattle.tree_layout.proofs.QuarterNumbers.{four_some, quarter_few, FourParts, whole_keeps}
@@ -123,59 +122,34 @@ module _ (j : ℕ) (a b c d : Sheet) (la lb lc ld : ℕ) (f : AreFour j a b c d 
       ∙ ap (λ n. (row_of p, n)) (shift_zero c.cols (col_of p)))
       ∙ ap (λ n. (n, col_of p + c.cols)) (shift_zero up (row_of p))
 
-  -- a sheet that is not full has none behind it
-  none_behind : (l next : ℕ) → (1 ≤ next → l ≡ 4 ^ j) → l < 4 ^ j → next ≡ 0
-  none_behind l next full lt = by (cases_lt 0 next)
-    where
-      by : (0 < next) ⊎ (next ≤ 0) → next ≡ 0
-      by (inl h) = let e : l ≡ 4 ^ j = full (omega arith) in absurd (omega arith)
-      by (inr h) = omega arith
-
-  in_first : (r : ℕ) → r < 4 ^ j → r < la + lb + lc + ld → (r < la) ⊎ (la ≤ r) → r < la
-  in_first r lt inside (inl h) = h
-  in_first r lt inside (inr h) =
-      let e : lb ≡ 0 = none_behind la lb f.full_first (omega arith) in
-      let g : lc ≡ 0 = none_behind lb lc f.full_second (omega (arith, four_some j)) in
-      let k : ld ≡ 0 = none_behind lc ld f.full_third (omega (arith, four_some j)) in
-      absurd (omega arith)
-
-  in_second : (r : ℕ) → r < 4 ^ j → 4 ^ j + r < la + lb + lc + ld → (r < lb) ⊎ (lb ≤ r) → r < lb
-  in_second r lt inside (inl h) = h
-  in_second r lt inside (inr h) =
-      let few = f.few_first in
-      let g : lc ≡ 0 = none_behind lb lc f.full_second (omega arith) in
-      let k : ld ≡ 0 = none_behind lc ld f.full_third (omega (arith, four_some j)) in
-      absurd (omega arith)
-
-  in_third : (r : ℕ) → r < 4 ^ j → 2 * 4 ^ j + r < la + lb + lc + ld → (r < lc) ⊎ (lc ≤ r) → r < lc
-  in_third r lt inside (inl h) = h
-  in_third r lt inside (inr h) =
-      let few = f.few_first in let few2 = f.few_second in
-      let k : ld ≡ 0 = none_behind lc ld f.full_third (omega arith) in
-      absurd (omega arith)
-
   parts : (x r : ℕ) → x < 4 → r < 4 ^ j → x * 4 ^ j + r < la + lb + lc + ld → (r < size x) × (place_at all (x * 4 ^ j + r) ≡ part x r)
   parts zero r x4 lt inside =
-      let here : r < la = in_first r lt (omega arith) (cases_lt r la) in
+      let q1 = f.full_first in let q2 = f.full_second in let q3 = f.full_third in
+      let here : r < la = omega (arith, four_some j) in
       let e : 0 * 4 ^ j + r ≡ r = omega arith in
       (here, ap (place_at all) e ∙ first_at r here)
   parts (suc zero) r x4 lt inside =
-      let here : r < lb = in_second r lt (omega arith) (cases_lt r lb) in
-      let full : la ≡ 4 ^ j = f.full_first (omega arith) in
+      let q1 = f.full_first in let q2 = f.full_second in let q3 = f.full_third in
+      let few = f.few_first in
+      let here : r < lb = omega (arith, four_some j) in
+      let full : la ≡ 4 ^ j = q1 (omega arith) in
       let e : 1 * 4 ^ j + r ≡ la + r = omega arith in
       (here, ap (place_at all) e ∙ second_at r here)
   parts (suc (suc zero)) r x4 lt inside =
-      let here : r < lc = in_third r lt (omega arith) (cases_lt r lc) in
-      let full2 : lb ≡ 4 ^ j = f.full_second (omega arith) in
-      let full : la ≡ 4 ^ j = f.full_first (omega (arith, four_some j)) in
+      let q1 = f.full_first in let q2 = f.full_second in let q3 = f.full_third in
+      let few = f.few_first in let few2 = f.few_second in
+      let here : r < lc = omega (arith, four_some j) in
+      let full2 : lb ≡ 4 ^ j = q2 (omega arith) in
+      let full : la ≡ 4 ^ j = q1 (omega (arith, four_some j)) in
       let e : 2 * 4 ^ j + r ≡ la + lb + r = omega arith in
       (here, ap (place_at all) e ∙ third_at r here)
   parts (suc (suc (suc zero))) r x4 lt inside =
+      let q1 = f.full_first in let q2 = f.full_second in let q3 = f.full_third in
       let few = f.few_first in let few2 = f.few_second in let few3 = f.few_third in
       let here : r < ld = omega arith in
-      let full3 : lc ≡ 4 ^ j = f.full_third (omega arith) in
-      let full2 : lb ≡ 4 ^ j = f.full_second (omega (arith, four_some j)) in
-      let full : la ≡ 4 ^ j = f.full_first (omega (arith, four_some j)) in
+      let full3 : lc ≡ 4 ^ j = q3 (omega arith) in
+      let full2 : lb ≡ 4 ^ j = q2 (omega (arith, four_some j)) in
+      let full : la ≡ 4 ^ j = q1 (omega (arith, four_some j)) in
       let e : 3 * 4 ^ j + r ≡ la + lb + (lc + r) = omega arith in
       (here, ap (place_at all) e ∙ fourth_at r here)
   parts (suc (suc (suc (suc x)))) r x4 lt inside = absurd (omega arith)
@@ -184,10 +158,10 @@ module _ (j : ℕ) (a b c d : Sheet) (la lb lc ld : ℕ) (f : AreFour j a b c d 
   own zero x4 = f.first.quarters
   own (suc zero) x4 = carried lb (place_at b.nodes) (part 1) (λ (p : BlockPlace). (row_of p + 0, col_of p + a.cols)) (moved_up 0 a.cols)
       (λ i lt. let e : row_of (place_at b.nodes i) ≡ row_of (place_at b.nodes i) + 0 = omega arith in
-      ap (λ n. (n, col_of (place_at b.nodes i) + a.cols)) e) f.second.quarters
+          ap (λ n. (n, col_of (place_at b.nodes i) + a.cols)) e) f.second.quarters
   own (suc (suc zero)) x4 = carried lc (place_at c.nodes) (part 2) (λ (p : BlockPlace). (row_of p + up, col_of p + 0)) (moved_up up 0)
       (λ i lt. let e : col_of (place_at c.nodes i) ≡ col_of (place_at c.nodes i) + 0 = omega arith in
-      ap (λ n. (row_of (place_at c.nodes i) + up, n)) e) f.third.quarters
+          ap (λ n. (row_of (place_at c.nodes i) + up, n)) e) f.third.quarters
   own (suc (suc (suc zero))) x4 = carried ld (place_at d.nodes) (part 3) (λ (p : BlockPlace). (row_of p + up, col_of p + c.cols)) (moved_up up c.cols)
       (λ i lt. refl) f.fourth.quarters
   own (suc (suc (suc (suc x)))) x4 = absurd (omega arith)
@@ -252,7 +226,7 @@ module _ (j : ℕ) (a b c d : Sheet) (la lb lc ld : ℕ) (f : AreFour j a b c d 
       let x = i / q in
       let r = i % q in
       let whole : q * x + r ≡ i = div-add-mod i q in
-      let small : r < q = mod-lt i {m = q} some in
+      let small : r < q = mod-lt i {q} some in
       let is : x * q + r ≡ i = omega arith in
       let here : x * q + r < la + lb + lc + ld = omega arith in
       let x4 : x < 4 = quarter_few x q r (la + lb + lc + ld) here (four_parts.few) in
