@@ -10,14 +10,22 @@ mod circuits;
 #[cfg(test)]
 mod drawings;
 #[cfg(test)]
+mod drawn_parts;
+#[cfg(test)]
 mod geometry;
 #[cfg(test)]
 mod grids;
 #[cfg(test)]
 mod laid;
 #[cfg(test)]
+mod layouts;
+#[cfg(test)]
+mod part_texts;
+#[cfg(test)]
 mod polygons;
 #[cfg(test)]
 mod shapes;
+#[cfg(test)]
+mod shapes_of_trees;
 #[cfg(test)]
 mod tiles;
