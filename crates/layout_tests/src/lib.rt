@@ -20,4 +20,6 @@ mod polygons;
 #[cfg(test)]
 mod shapes;
 #[cfg(test)]
+mod sweeps;
+#[cfg(test)]
 mod tiles;
