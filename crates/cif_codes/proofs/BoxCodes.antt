@@ -52,13 +52,13 @@ exact_sides m along across centre direction sides s none =
 
 -- ---- edges
 
-pub lower_alike : (m : ℕ) (c w u v : ℤ) → AreAlike m c u → AreAlike m w v → AreAlike m (pos 2 *ℤ c -ℤ w) (pos 2 *ℤ u -ℤ v)
+lower_alike : (m : ℕ) (c w u v : ℤ) → AreAlike m c u → AreAlike m w v → AreAlike m (pos 2 *ℤ c -ℤ w) (pos 2 *ℤ u -ℤ v)
 lower_alike m c w u v a b =
     let e : c +ℤ pos (m * a.0) ≡ u +ℤ pos (m * a.1) = a.2 in
     let f : w +ℤ pos (m * b.0) ≡ v +ℤ pos (m * b.1) = b.2 in
     (2 * a.0 + b.1, 2 * a.1 + b.0, omega (arith, ints, e, f))
 
-pub upper_alike : (m : ℕ) (c w u v : ℤ) → AreAlike m c u → AreAlike m w v → AreAlike m (pos 2 *ℤ c +ℤ w) (pos 2 *ℤ u +ℤ v)
+upper_alike : (m : ℕ) (c w u v : ℤ) → AreAlike m c u → AreAlike m w v → AreAlike m (pos 2 *ℤ c +ℤ w) (pos 2 *ℤ u +ℤ v)
 upper_alike m c w u v a b =
     let e : c +ℤ pos (m * a.0) ≡ u +ℤ pos (m * a.1) = a.2 in
     let f : w +ℤ pos (m * b.0) ≡ v +ℤ pos (m * b.1) = b.2 in

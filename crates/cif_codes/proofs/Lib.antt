@@ -7,8 +7,3 @@ pub mod MoveCodes
 pub mod OpeningCodes
 pub mod PointCodes
 pub mod Scaling
-pub mod LayerCodes
-pub mod Ending
-pub mod Bending
-pub mod WireCodes
-pub mod Multiples

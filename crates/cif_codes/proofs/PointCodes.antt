@@ -57,11 +57,11 @@ stand_exact m (a ∷ as1) (b ∷ bs) h none =
 
 -- ---- sides
 
-pub segments_push : (p : Point) (qs : List Point) (q : Point) → segments_from p (qs ++ q ∷ []) ≡ segments_from p qs ++ record { start = last_point p qs; stop = q } ∷ []
+segments_push : (p : Point) (qs : List Point) (q : Point) → segments_from p (qs ++ q ∷ []) ≡ segments_from p qs ++ record { start = last_point p qs; stop = q } ∷ []
 segments_push p [] q = refl
 segments_push p (r ∷ qs) q = ap (λ (l : List Segment). record { start = p; stop = r } ∷ l) (segments_push r qs q)
 
-pub all_push : {X : Type 0} (p : X → Bool) (xs : List X) (x : X) → list_all p (xs ++ x ∷ []) ≡ (list_all p xs && p x)
+all_push : {X : Type 0} (p : X → Bool) (xs : List X) (x : X) → list_all p (xs ++ x ∷ []) ≡ (list_all p xs && p x)
 all_push p [] x = last (p x)
   where
     last : (t : Bool) → (t && true) ≡ t
@@ -73,7 +73,7 @@ all_push p (y ∷ ys) x = ap (λ (v : Bool). p y && v) (all_push p ys x) ∙ gro
     grouped true b c = refl
     grouped false b c = refl
 
-pub not_and : (a b : Bool) → not (a && b) ≡ (not a || not b)
+not_and : (a b : Bool) → not (a && b) ≡ (not a || not b)
 not_and true b = refl
 not_and false b = refl
 
@@ -197,7 +197,7 @@ points_begin m scale text stop points from c h p = record {
 -- ---- the least code
 
 -- of a shape whose numbers are too great no other code counts
-pub same_verdict : (bare off far odd real many : Bool) → (far ≡ false → odd ≡ real)
+same_verdict : (bare off far odd real many : Bool) → (far ≡ false → odd ≡ real)
     → first_code (shape_verdict bare off far odd many) ≡ first_code (shape_verdict bare off far real many)
 same_verdict bare off true odd real many h = refl
 same_verdict bare off false odd real many h = ap (λ (v : Bool). first_code (shape_verdict bare off false v many)) (h refl)

@@ -8,10 +8,10 @@ use Rattle.std.proofs.lemmas.Int.{ints, to_z-of_z, fits_signed_from_abs, fits_si
 use Rattle.geom.specs.CifCommands.{CifScale}
 use Rattle.geom.specs.CifCodes.{IsFarOff}
 
-pub leaf : (a : ℤ) (n : ℕ) → unsigned_abs a ≤ n → n < 2 ^ 100 → to_z w128 (of_z w128 a) ≡ a
+leaf : (a : ℤ) (n : ℕ) → unsigned_abs a ≤ n → n < 2 ^ 100 → to_z w128 (of_z w128 a) ≡ a
 leaf a n h k = to_z-of_z w128 a (fits_signed_from_abs w128 a (omega (arith, h, k)))
 
-pub product : (a b : ℤ) → unsigned_abs a ≤ 2 ^ 60 → unsigned_abs b ≤ 2 ^ 60 → to_z w128 (of_z w128 (to_z w128 (of_z w128 a) *ℤ to_z w128 (of_z w128 b))) ≡ a *ℤ b
+product : (a b : ℤ) → unsigned_abs a ≤ 2 ^ 60 → unsigned_abs b ≤ 2 ^ 60 → to_z w128 (of_z w128 (to_z w128 (of_z w128 a) *ℤ to_z w128 (of_z w128 b))) ≡ a *ℤ b
 product a b h k =
     ap (λ (z : ℤ). to_z w128 (of_z w128 (z *ℤ to_z w128 (of_z w128 b)))) (leaf a (2 ^ 60) h (omega arith))
     ∙ (ap (λ (z : ℤ). to_z w128 (of_z w128 (a *ℤ z))) (leaf b (2 ^ 60) k (omega arith))

@@ -1,9 +1,7 @@
 -- Definitions that public contracts cite:
 pub mod Scales
 pub mod Checks
-pub mod Wires
 pub mod Least
 -- Definitions that serve private contracts alone:
 pub mod Verdicts
 pub mod Corners
-pub mod Bends

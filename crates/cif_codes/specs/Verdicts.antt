@@ -35,13 +35,3 @@ opening_verdict again nested great C5 = again
 opening_verdict again nested great C6 = nested
 opening_verdict again nested great C8 = great
 opening_verdict again nested great code = false
-
--- the code of commands that set layers
-abbrev pub layer_verdict : (unnamed : Bool) → CifCode → Bool
-layer_verdict unnamed C2 = unnamed
-layer_verdict unnamed code = false
-
--- the code of closes of definitions
-abbrev pub closing_verdict : (outside : Bool) → CifCode → Bool
-closing_verdict outside C6 = outside
-closing_verdict outside code = false

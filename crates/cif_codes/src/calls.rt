@@ -66,7 +66,7 @@ pub fn moves_checks(text: &[u8], at: usize, scale: Scale) -> MoveChecks
 }
 
 /// A transformation stands here, where the rest of a call does.
-pub fn moves_stand(text: &[u8], at: usize) -> bool
+fn moves_stand(text: &[u8], at: usize) -> bool
     ensures yes { result ≡ true → (stop : ℕ) (moves : List CifMove) → PartsAt text.now at stop (flat_map move_parts moves) → moves ≢ [] }
     ensures no { result ≡ false → (stop : ℕ) (moves : List CifMove) → PartsAt text.now at stop (flat_map move_parts moves) → moves ≡ [] }
     ensures inside { result ≡ true → at < length text.now }

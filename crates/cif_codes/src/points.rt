@@ -20,7 +20,7 @@ use cif_values::{Next, next_here, point_here};
 use geom::{CifCode, Layer, Point};
 
 /// The most points of a polygon or a wire.
-pub const MOST_POINTS: usize = 4096;
+const MOST_POINTS: usize = 4096;
 
 /// The first and the last of some points.
 #[derive(Clone, Copy, Debug, PartialEq, Eq)]
@@ -63,7 +63,7 @@ pub fn corners_here(text: &[u8], at: usize, scale: Scale) -> Corners
 }
 
 /// A point stands here, where the rest of a shape does.
-pub fn points_stand(text: &[u8], at: usize) -> bool
+fn points_stand(text: &[u8], at: usize) -> bool
     ensures yes { result ≡ true → (stop : ℕ) (points : List Point) → PartsAt text.now at stop (flat_map point_parts points) → points ≢ [] }
     ensures no { result ≡ false → (stop : ℕ) (points : List Point) → PartsAt text.now at stop (flat_map point_parts points) → points ≡ [] }
     ensures begins { result ≡ true → NumberBegins text.now at }
@@ -146,7 +146,7 @@ fn is_axis_side(start: Point, stop: Point) -> bool
 }
 
 /// The coordinates are the same.
-pub fn shares(one: i64, other: i64) -> bool
+fn shares(one: i64, other: i64) -> bool
     ensures { result ≡ is_zero (other -ℤ one) }
 {
     one == other

@@ -1,10 +1,8 @@
 // Scales of definitions.
 
-ghost use Rattle.std.specs.Prelude.{◌≡◌, ◌*◌, ◌≤◌, ◌^◌, pos, ◌*ℤ◌};
+ghost use Rattle.std.specs.Prelude.{◌≡◌, ◌*◌, ◌≤◌, ◌^◌};
 ghost use Rattle.std.specs.Bool.{Decides};
 ghost use Rattle.std.specs.Int.RustNames.{unsigned_abs};
-ghost use Rattle.geom.specs.CifDrawings.{scaled};
-ghost use Rattle.geom.specs.Turns.{IsReachable};
 ghost use Rattle.geom.specs.CifCodes.{IsOffGrid, IsFarOff, IsTooGreat};
 ghost use Rattle.cif_codes.specs.Scales.{ratio, grid_of, IsScale};
 
@@ -46,20 +44,6 @@ impl Scale {
         let scaled = i128::from(twice) * i128::from(self.times);
         let limit = i128::from(self.grid()) * i128::from(GREATEST);
         limit < scaled || scaled < -limit
-    }
-
-    /// The distance in lambda of which this is twice the number of units, where it is on the grid and at most 2^40 lambda from 0.
-    pub fn scaled(self, twice: i64) -> i64
-        requires scale { IsScale self }
-        requires near { unsigned_abs twice ≤ 2 ^ 55 }
-        requires on_grid { IsOffGrid (ratio self) twice → ⊥ }
-        requires not_far { IsFarOff (ratio self) twice → ⊥ }
-        ensures scaled { result ≡ scaled (ratio self) twice }
-        ensures exact { result *ℤ pos (grid_of self) ≡ twice *ℤ pos self.times }
-        ensures reachable { IsReachable result }
-    {
-        let scaled = i128::from(twice) * i128::from(self.times);
-        (scaled / i128::from(self.grid())) as i64
     }
 }
 

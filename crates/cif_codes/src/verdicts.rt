@@ -1,7 +1,7 @@
 // The least code of those that stand.
 
 ghost use Rattle.std.specs.Prelude.{◌≡◌};
-ghost use Rattle.cif_codes.specs.Verdicts.{first_code, shape_verdict, call_verdict, opening_verdict, layer_verdict, closing_verdict};
+ghost use Rattle.cif_codes.specs.Verdicts.{first_code, shape_verdict, call_verdict, opening_verdict};
 
 use geom::CifCode;
 
@@ -69,18 +69,4 @@ pub fn opening_verdict_code(again: bool, nested: bool, great: bool) -> Option<Ci
     } else {
         None
     }
-}
-
-/// Of a command that sets a layer: no layer has the name.
-pub fn layer_verdict_code(unnamed: bool) -> Option<CifCode>
-    ensures { result ≡ first_code (layer_verdict unnamed) }
-{
-    if unnamed { Some(CifCode::C2) } else { None }
-}
-
-/// Of the close of a definition: none is open.
-pub fn closing_verdict_code(outside: bool) -> Option<CifCode>
-    ensures { result ≡ first_code (closing_verdict outside) }
-{
-    if outside { Some(CifCode::C6) } else { None }
 }

@@ -82,7 +82,7 @@ pub record BytesAt (text : List ℕ) (first end : ℕ) (bytes : List ℕ) : Type
 byte_at : (text : List ℕ) (first end k : ℕ) → k < end - first → get_or (between text first end) k 0 ≡ get_or text (first + k) 0
 byte_at text first end k h = get_or-take (end - first) (drop first text) k 0 h ∙ get_or-drop first text k 0
 
-pub bytes_at : (text : List ℕ) (first end : ℕ) (bytes : List ℕ) → first < end → end ≤ length text → bytes ++ codes ";" ≡ between text first end → BytesAt text first end bytes
+bytes_at : (text : List ℕ) (first end : ℕ) (bytes : List ℕ) → first < end → end ≤ length text → bytes ++ codes ";" ≡ between text first end → BytesAt text first end bytes
 bytes_at text first end bytes o w e =
     let l : length (between text first end) ≡ end - first = length-take-le (end - first) (drop first text) (omega (arith, length-drop first text)) in
     let k : length bytes + 1 ≡ end - first = sym (length-append bytes (codes ";")) ∙ (ap length e ∙ l) in

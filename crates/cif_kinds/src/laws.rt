@@ -1,8 +1,7 @@
 // Where the parts of commands stand.
 
-ghost use Rattle.std.specs.Prelude.{◌≡◌, ℕ, ◌-◌, List};
-ghost use Rattle.geom.specs.CifCommands.{Extension, command_parts};
-ghost use Rattle.cif_syntax.specs.Ends.{between};
+ghost use Rattle.std.specs.Prelude.{ℕ, ◌-◌, List};
+ghost use Rattle.geom.specs.CifCommands.{command_parts};
 ghost use Rattle.cif_syntax.specs.Sentences.{IsCommandAt};
 ghost use Rattle.cif_values.specs.Parts.{PartsAt};
 ghost use Rattle.cif_kinds.specs.Kinds.{IsMadeOfParts};
@@ -11,10 +10,4 @@ ghost use Rattle.cif_kinds.specs.Kinds.{IsMadeOfParts};
 pub fn parts_stand()
     ensures { (text : List ℕ) (from first end : ℕ) (h : IsCommandAt text from first end) → IsMadeOfParts h.here.command
         → PartsAt text first (end - 1) (command_parts h.here.command) }
-{}
-
-/// The text of a user extension stands from its first byte up to its semicolon.
-pub fn extensions_stand()
-    ensures { (text : List ℕ) (from first end : ℕ) (h : IsCommandAt text from first end) (written : List ℕ) → h.here.command ≡ Extension written
-        → between text first (end - 1) ≡ written }
 {}

@@ -3,8 +3,6 @@
 
 mod kinds;
 mod laws;
-mod layers;
 
 pub use kinds::{CommandKind, command_kind};
-pub use laws::{extensions_stand, parts_stand};
-pub use layers::{layer_here, layer_named};
+pub use laws::parts_stand;

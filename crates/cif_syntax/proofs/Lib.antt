@@ -11,4 +11,3 @@ pub mod ZeroStands
 pub mod Following
 pub mod Breaking
 pub mod Sorting
-pub mod Apart

@@ -1,7 +1,6 @@
 -- Definitions that public contracts cite:
 pub mod Ends
 pub mod Sentences
-pub mod Apart
 -- Definitions that serve private contracts alone:
 pub mod Kinds
 pub mod Slots

@@ -4,11 +4,9 @@
 
 mod due;
 mod kind;
-mod laws;
 mod next;
 mod sentence;
 mod slot;
 
-pub use laws::sentences_are_apart;
 pub use next::{Sentence, SyntaxFault, next_sentence};
 pub use sentence::{SentenceFault, sentence_end};

@@ -4,5 +4,3 @@ pub mod Counting
 pub mod Behind
 pub mod Standing
 pub mod NextParts
-pub mod Ordering
-pub mod Written

@@ -148,10 +148,10 @@ word_same v h = to_z-of_z w64 v (fits_signed_from_abs w64 v (omega (arith, h)))
 pub stands_word : (m : ℕ) (z v : ℤ) → StandsFor m z v → StandsFor m z (to_z w64 (of_z w64 v))
 stands_word m z v s = let P : ℤ → Type 0 = λ n. StandsFor m z n in subst P (sym (word_same v s.near)) s
 
-pub plain_word : (v : ℕ) → v ≤ 2 ^ 52 → to_z w64 v ≡ pos v
+plain_word : (v : ℕ) → v ≤ 2 ^ 52 → to_z w64 v ≡ pos v
 plain_word v h = to_z_pos w64 v (omega (arith, h))
 
-pub minus_word : (v : ℕ) → v ≤ 2 ^ 52 → to_z w64 (of_z w64 (pos 0 -ℤ to_z w64 v)) ≡ neg_ℤ (pos v)
+minus_word : (v : ℕ) → v ≤ 2 ^ 52 → to_z w64 (of_z w64 (pos 0 -ℤ to_z w64 v)) ≡ neg_ℤ (pos v)
 minus_word v h =
     let e : pos 0 -ℤ pos v ≡ neg_ℤ (pos v) = omega (arith, ints) in
     ap (λ (n : ℤ). to_z w64 (of_z w64 (pos 0 -ℤ n))) (plain_word v h)

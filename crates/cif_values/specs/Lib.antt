@@ -4,4 +4,3 @@ pub mod Numbers
 pub mod Values
 -- Definitions that serve private contracts alone:
 pub mod Runs
-pub mod Orders

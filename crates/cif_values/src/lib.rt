@@ -2,7 +2,6 @@
 #![tactic(auto)]
 
 mod boxes;
-mod less;
 mod moves;
 mod next;
 mod numbers;
@@ -11,10 +10,9 @@ mod points;
 mod runs;
 
 pub use boxes::{Sides, box_here};
-pub use less::is_less;
 pub use moves::{Move, move_here};
 pub use next::{Next, next_here};
-pub use numbers::{number_here, written_number};
+pub use numbers::number_here;
 pub use openings::{Opening, opening_here};
 pub use points::point_here;
 pub use runs::{behind_letters, skip_blanks};

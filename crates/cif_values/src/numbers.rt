@@ -1,10 +1,10 @@
 // The numbers of commands.
 
-ghost use Rattle.std.specs.Prelude.{◌≡◌, ◌≤◌, ◌<◌, ◌*◌, ◌+◌, ◌^◌, ℕ, ℤ, true, List, ◌∷◌, length, take, drop, IfSome, IsNone};
+ghost use Rattle.std.specs.Prelude.{◌≡◌, ◌≤◌, ◌<◌, ◌*◌, ◌+◌, ◌^◌, ℕ, true, List, ◌∷◌, length, take, drop};
 ghost use Rattle.std.specs.Char.{digit_value};
 ghost use Rattle.std.specs.Str.Parse.{digits_value};
 ghost use Rattle.rx_text.specs.NumberInText.{is_digit};
-ghost use Rattle.geom.specs.CifCommands.{CifPart, WritesNumber, WritesSigned, is_number_part};
+ghost use Rattle.geom.specs.CifCommands.{CifPart, is_number_part};
 ghost use Rattle.cif_syntax.specs.Ends.{between};
 ghost use Rattle.cif_values.specs.Parts.{PartsAt, number_in};
 ghost use Rattle.cif_values.specs.Numbers.{StandsFor};
@@ -39,45 +39,6 @@ pub fn number_here(text: &[u8], at: usize, divisor: u64) -> (i64, usize)
         let (value, behind) = digits(text, at, divisor);
         (value as i64, skip_blanks(text, behind))
     }
-}
-
-/// The number that these bytes write, perhaps with a sign, or one that stands for it by the divisor. `None` where they write none.
-pub fn written_number(word: &[u8], divisor: u64) -> Option<i64>
-    requires some { 0 < divisor }
-    requires few { divisor ≤ 400 * 2 ^ 40 }
-    ensures number { IfSome result (λ v. (z : ℤ) × WritesSigned z word.now × StandsFor divisor z v) }
-    ensures none { IsNone result → (z : ℤ) → WritesSigned z word.now → ⊥ }
-    ensures near { IfSome result (λ v. IsNearNumber v) }
-{
-    if !word.is_empty() && word[0] == b'-' {
-        match digits_alone(word, 1, divisor) {
-            Some(value) => Some(-(value as i64)),
-            None => None,
-        }
-    } else {
-        match digits_alone(word, 0, divisor) {
-            Some(value) => Some(value as i64),
-            None => None,
-        }
-    }
-}
-
-/// What stands for the number that the bytes from a place on write with no sign.
-fn digits_alone(word: &[u8], from: usize, divisor: u64) -> Option<u64>
-    requires place { from ≤ length word.now }
-    requires some { 0 < divisor }
-    requires few { divisor ≤ 400 * 2 ^ 40 }
-    ensures number { IfSome result (λ v. (n : ℕ) × WritesNumber n (drop from word.now) × Counts divisor n v) }
-    ensures none { IsNone result → (n : ℕ) → WritesNumber n (drop from word.now) → ⊥ }
-{
-    let (value, behind) = digits(word, from, divisor);
-    if behind == from {
-        return None;
-    }
-    if behind < word.len() {
-        return None;
-    }
-    Some(value)
 }
 
 /// What stands for the number of the digits here, and the place behind them.

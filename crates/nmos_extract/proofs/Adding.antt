@@ -1,5 +1,5 @@
 -- Links that are added one after the other.
-use Rattle.std.proofs.Common.{◌≡◌, ◌↔◌, ◌⊎◌, inl, inr, ℕ, ◌<◌, ◌≤◌, ◌+◌, ◌^◌, ℤ, ◌≤ℤ◌, List, [], ◌∷◌, ◌++◌, length, take, map, Option, Some, None, IfSome, get_or, refl, sym, ◌∙◌, ap, subst, arith}
+use Rattle.std.proofs.Common.{◌≡◌, ◌⊎◌, inl, inr, ℕ, ◌<◌, ◌≤◌, ◌+◌, ◌^◌, ℤ, ◌≤ℤ◌, List, [], ◌∷◌, ◌++◌, length, map, Option, Some, None, IfSome, get_or, refl, sym, ◌∙◌, ap, subst, arith}
 use Rattle.std.proofs.lemmas.Int.{ints}
 use Rattle.std.proofs.lemmas.List.{get_or_default}
 use Rattle.geom.specs.declared.point.Point.{Point}
@@ -9,7 +9,7 @@ use Rattle.geom.specs.Rows.{Among, Over}
 use Rattle.canonical_boxes.specs.declared.touching.Touch.{Touch}
 use Rattle.canonical_boxes.specs.Canonical.{IsAt, IsCanonical}
 use Rattle.canonical_boxes.specs.Located.{IsOver, IsLocated, AreLocated}
-use Rattle.canonical_boxes.specs.Touches.{AreTouches, IsTouch}
+use Rattle.canonical_boxes.specs.Touches.{AreTouches}
 use Rattle.canonical_boxes.specs.Laws.{BoxesLead, AreNumbered, SquaresLeadByTouches}
 use Rattle.nmos_extract.specs.declared.links.Link.{Link}
 use Rattle.nmos_extract.specs.Corners.{corner}
@@ -32,9 +32,6 @@ pub record AddsOf (found : List Touch) (first : ℕ) (old new : List Link) : Typ
   pub kept : (l : Link) → Among old l → Among new l
   pub sound : (l : Link) → Among new l → Among old l ⊎ ((t : Touch) × Among found t × (l ≡ touch_link first t))
   pub all : (t : Touch) → Among found t → Among new (touch_link first t)
-
-pub none_added : (first : ℕ) (old : List Link) → AddsOf [] first old old
-none_added first old = record { kept = λ l i. i; sound = λ l i. inl i; all = λ t i. absurd i }
 
 pub one_added : (found : List Touch) (first : ℕ) (t : Touch) (old mid new : List Link) → new ≡ mid ++ touch_link first t ∷ [] → AddsOf found first old mid
     → AddsOf (found ++ t ∷ []) first old new
@@ -72,9 +69,6 @@ pub record AddsBelow (places one other : List BoxShape) (first n : ℕ) (old new
       ⊎ ((b : BoxShape) × Among places b × (i : ℕ) × (j : ℕ) × IsOver one b.x1 b.y1 i × IsOver other b.x1 b.y1 j × (l ≡ link (0 + i) (first + j)))
   pub all : (k : ℕ) (b : BoxShape) → IsAt places k b → k < n → (i j : ℕ) → IsOver one b.x1 b.y1 i → IsOver other b.x1 b.y1 j
       → Among new (link (0 + i) (first + j))
-
-pub none_below : (places one other : List BoxShape) (first : ℕ) (old : List Link) → AddsBelow places one other first 0 old old
-none_below places one other first old = record { kept = λ l i. i; sound = λ l i. inl i; all = λ k b at l. absurd (omega arith) }
 
 module _ (numbered : AreNumbered) (places one other : List BoxShape) (canonical : IsCanonical one) (others : IsCanonical other) (first n : ℕ) (b : BoxShape)
     (at : IsAt places n b) (f g : Option ℕ) (over : IsLocated one b.x1 b.y1 f) (under : IsLocated other b.x1 b.y1 g) (old : List Link) where
@@ -162,12 +156,6 @@ cuts_added numbered by_touches places one other canonical first n old new past h
         )
 
 -- ---- both ways
-
-pub no_ways : AreBothWays [] []
-no_ways l = ((λ i. absurd i), (λ i. elim i [ inl k ↦ k | inr k ↦ k ]))
-
-flip_twice : (l : Link) → flipped (flipped l) ≡ l
-flip_twice l = refl
 
 pub two_ways : (links : List Link) (l : Link) (old mid new : List Link) → mid ≡ old ++ l ∷ [] → new ≡ mid ++ flipped l ∷ [] → AreBothWays links old
     → AreBothWays (links ++ l ∷ []) new

@@ -1,14 +1,11 @@
 -- Boxes of channel squares with nothing on top are regions.
-use Rattle.std.proofs.Common.{◌≡◌, ◌↔◌, ◌⊎◌, inl, inr, ℕ, ◌<◌, ℤ, pos, ◌+ℤ◌, ◌-ℤ◌, ◌≤ℤ◌, ◌<ℤ◌, List, refl, sym, ◌∙◌, ap, subst, arith}
+use Rattle.std.proofs.Common.{◌≡◌, ◌↔◌, inl, inr, ℕ, ◌<◌, ℤ, pos, ◌+ℤ◌, ◌-ℤ◌, ◌≤ℤ◌, ◌<ℤ◌, List, refl, sym, ◌∙◌, ap, subst, arith}
 use Rattle.std.proofs.lemmas.Int.{ints, by_lt_z}
 use Rattle.geom.specs.Conduction.{ShareSide, Leads, Drawing, IsChannel}
 use Rattle.geom.specs.Conduction.Leads.{here, step}
-use Rattle.geom.specs.Merged.{InRow}
 use Rattle.geom.specs.Squares.{BoxShape, IsBox, Inside}
 use Rattle.geom.specs.Rows.{Over, IsRun}
 use Rattle.canonical_boxes.specs.Canonical.{IsCanonical, IsAt}
-use Rattle.canonical_boxes.specs.Held.{InArea}
-use Rattle.canonical_boxes.specs.Located.{IsOver}
 use Rattle.canonical_boxes.specs.Laws.{BoxesLead, AreNumbered, BoxesAreRuns, SquaresLeadByTouches}
 use Rattle.nmos_model.specs.Channels.{IsFull}
 use Rattle.nmos_extract.specs.Areas.{above}

@@ -1,16 +1,14 @@
 -- Spots that are joined have boxes of one class.
-use Rattle.std.proofs.Common.{◌≡◌, ◌↔◌, ◌⊎◌, inl, inr, ℕ, ◌<◌, ◌+◌, ℤ, Bool, true, List, length, Option, Some, refl, sym, ◌∙◌, ap, subst, arith}
+use Rattle.std.proofs.Common.{◌≡◌, ◌↔◌, ◌⊎◌, inl, inr, ℕ, ◌<◌, ℤ, true, List, refl, sym, ◌∙◌, ap, subst, arith}
 use Rattle.geom.specs.declared.layer.Layer.{Layer}
 use Rattle.geom.specs.declared.layer.Layer.TheVariants.{Diffusion, Poly, Metal, Cut, Implant}
-use Rattle.geom.specs.Conduction.{ShareSide, Leads, Drawing, Spot, Conducts, IsJoin, Joined}
+use Rattle.geom.specs.Conduction.{Leads, Drawing, Spot, IsJoin, Joined}
 use Rattle.geom.specs.Squares.{BoxShape}
 use Rattle.geom.specs.Rows.{Among, Over}
-use Rattle.canonical_boxes.specs.Canonical.{IsAt}
 use Rattle.canonical_boxes.specs.Located.{IsOver}
-use Rattle.canonical_boxes.specs.Touches.{IsTouch}
 use Rattle.canonical_boxes.specs.Laws.{AreNumbered, SquaresLeadByTouches, AreTouching, BoxesLead}
 use Rattle.canonical_boxes.specs.Laws.BoxesLead.{here, step}
-use Rattle.nmos_model.specs.Classes.{Classing, IsClassing, Linked, Reaches, class_at}
+use Rattle.nmos_model.specs.Classes.{Classing, IsClassing, Reaches, class_at}
 use Rattle.nmos_extract.specs.declared.links.Link.{Link}
 use Rattle.nmos_extract.specs.Conducting.{Conducting, boxes_in, node, node_count, AreConducting}
 use Rattle.nmos_extract.specs.Links.{AreLinks, HasCutLink, IsUnderCut, link}

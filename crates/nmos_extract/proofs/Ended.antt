@@ -1,20 +1,19 @@
 -- Boxes that are regions are channels where they have terminals, and the first that has none is the first region without.
-use Rattle.std.proofs.Common.{◌≡◌, ◌↔◌, ◌⊎◌, inl, inr, ℕ, ◌<◌, ℤ, pos, ◌+ℤ◌, ◌-ℤ◌, ◌≤ℤ◌, ◌<ℤ◌, Bool, true, false, List, length, slice_index_or, get_or, refl, sym, ◌∙◌, ap, subst, arith}
-use Rattle.std.proofs.lemmas.Int.{ints, by_lt_z}
+use Rattle.std.proofs.Common.{◌≡◌, ◌↔◌, ℕ, ◌<◌, ℤ, pos, ◌+ℤ◌, ◌-ℤ◌, ◌≤ℤ◌, ◌<ℤ◌, Bool, true, false, List, length, slice_index_or, get_or, refl, sym, subst, arith}
+use Rattle.std.proofs.lemmas.Int.{ints}
 use Rattle.geom.specs.declared.layer.Layer.TheVariants.{Diffusion, Implant}
-use Rattle.geom.specs.Conduction.{Leads, Drawing, IsChannel, Conducts}
+use Rattle.geom.specs.Conduction.{Leads, Drawing, IsChannel}
 use Rattle.geom.specs.Squares.{BoxShape, IsBox, Inside}
-use Rattle.geom.specs.Rows.{Among, Over, Pairwise, IsRun}
+use Rattle.geom.specs.Rows.{Over, IsRun}
 use Rattle.canonical_boxes.specs.Canonical.{IsCanonical, IsAt}
-use Rattle.canonical_boxes.specs.Held.{InArea, Holds}
+use Rattle.canonical_boxes.specs.Held.{InArea}
 use Rattle.canonical_boxes.specs.Laws.{AreNumbered, BoxesAreRuns, SquaresLeadByTouches}
 use Rattle.nmos_model.specs.declared.channel.Channel.{Channel}
-use Rattle.nmos_model.specs.Channels.{IsFull, IsImplanted, HasTerminals, IsTransistor, AreChannels, AreApart, IsEarlier, IsByRow, rectangle_of, Above, Below, LeftOf, RightOf, AllConduct, NoneConducts}
-use Rattle.nmos_model.specs.Devices.{IsNear}
+use Rattle.nmos_model.specs.Channels.{IsFull, HasTerminals, IsTransistor, AreChannels, AreApart, rectangle_of, Above, Below, LeftOf, RightOf, AllConduct, NoneConducts}
 use Rattle.nmos_model.specs.Refusals.{HasOddTerminals, IsFirstRegion, HasChannels, IsOdd}
 use Rattle.nmos_extract.specs.Areas.{above, below, left_of, right_of}
-use Rattle.nmos_extract.specs.Sides.{IsFree, HasSides}
-use Rattle.nmos_extract.specs.Regions.{IsRegion, IsSomeRegion, IsFirstNot, AreRegions, HasSomeSides, AreChannelsOf, channel_of}
+use Rattle.nmos_extract.specs.Sides.{HasSides}
+use Rattle.nmos_extract.specs.Regions.{IsSomeRegion, IsFirstNot, AreRegions, HasSomeSides, AreChannelsOf, channel_of}
 use Rattle.nmos_extract.specs.Terminals.{AreChannelSquares, AreTerminals}
 use Rattle.nmos_extract.proofs.Lists.{at_of, at_among, among_at, pairwise_of}
 use Rattle.nmos_extract.proofs.Boxed.{at_least, corner, box_at, over_box, one_over, run_at, nothing_below}

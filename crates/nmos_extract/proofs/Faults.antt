@@ -1,7 +1,6 @@
 -- The faults of regions and of their terminals are refusals of the drawing.
-use Rattle.std.proofs.Common.{◌≡◌, ◌↔◌, ℤ, Bool, List, sym, subst}
+use Rattle.std.proofs.Common.{◌↔◌, ℤ, Bool, List, sym, subst}
 use Rattle.geom.specs.declared.layer.Layer.TheVariants.{Diffusion, Implant}
-use Rattle.geom.specs.declared.chip.Label.{Label}
 use Rattle.geom.specs.Conduction.{Drawing}
 use Rattle.geom.specs.Squares.{BoxShape}
 use Rattle.geom.specs.Rows.{Over}

@@ -1,17 +1,15 @@
 -- The first box that fails is the first region that is odd.
-use Rattle.std.proofs.Common.{◌≡◌, ◌↔◌, ◌⊎◌, inl, inr, ℕ, ◌<◌, ℤ, pos, ◌+ℤ◌, ◌-ℤ◌, ◌≤ℤ◌, ◌<ℤ◌, Bool, true, false, List, refl, sym, ◌∙◌, ap, subst, arith}
+use Rattle.std.proofs.Common.{◌≡◌, ◌↔◌, inl, inr, ℕ, ◌<◌, ℤ, pos, ◌+ℤ◌, ◌≤ℤ◌, ◌<ℤ◌, Bool, true, false, List, subst, arith}
 use Rattle.std.proofs.lemmas.Int.{ints, by_lt_z}
-use Rattle.geom.specs.declared.layer.Layer.TheVariants.{Diffusion, Implant}
+use Rattle.geom.specs.declared.layer.Layer.TheVariants.{Implant}
 use Rattle.geom.specs.Conduction.{Leads, Drawing, IsChannel}
-use Rattle.geom.specs.Squares.{BoxShape, IsBox, Inside}
+use Rattle.geom.specs.Squares.{BoxShape, Inside}
 use Rattle.geom.specs.Rows.{Over}
 use Rattle.canonical_boxes.specs.Canonical.{BeginsBefore, IsCanonical, IsAt}
 use Rattle.canonical_boxes.specs.Laws.{AreNumbered, BoxesAreRuns, SquaresLeadByTouches}
 use Rattle.nmos_model.specs.Channels.{Begins, IsByRow, IsFull, IsImplanted}
 use Rattle.nmos_model.specs.Refusals.{IsOdd, IsFirstRegion}
-use Rattle.nmos_extract.specs.Areas.{above}
-use Rattle.nmos_extract.specs.Sides.{IsFree}
-use Rattle.nmos_extract.specs.Regions.{IsCovered, IsRegion, IsSomeRegion, IsFirstNot}
+use Rattle.nmos_extract.specs.Regions.{IsCovered, IsSomeRegion, IsFirstNot}
 use Rattle.nmos_extract.specs.Terminals.{AreChannelSquares}
 use Rattle.nmos_extract.proofs.Lists.{by_order, at_one}
 use Rattle.nmos_extract.proofs.Boxed.{corner, box_at, over_box, one_over, inside_leads, Tops, nothing_below, confined, full_box, full_free}

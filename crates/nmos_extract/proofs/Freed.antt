@@ -1,5 +1,5 @@
 -- Rectangles without squares of a set, and boxes wholly under implant or beside it.
-use Rattle.std.proofs.Common.{◌≡◌, ◌↔◌, ◌⊎◌, inl, inr, ℕ, zero, suc, ◌<◌, ◌&&◌, ◌||◌, ℤ, Bool, true, false, IsTrue, List, [], ◌∷◌, length, map, get_or, refl, sym, ◌∙◌, ap, subst, arith}
+use Rattle.std.proofs.Common.{◌≡◌, ◌↔◌, inl, inr, ℕ, ◌&&◌, ◌||◌, ℤ, Bool, true, false, IsTrue, List, [], ◌∷◌, length, map, get_or, refl, sym, ◌∙◌, subst}
 use Rattle.geom.specs.Squares.{BoxShape, Inside}
 use Rattle.geom.specs.Rows.{Among, Over}
 use Rattle.canonical_boxes.specs.declared.holding.Area.{Area}

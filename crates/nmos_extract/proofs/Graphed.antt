@@ -1,16 +1,16 @@
 -- Links are a graph on the nodes, and layers are sets of conductors.
-use Rattle.std.proofs.Common.{◌≡◌, ◌↔◌, ◌⊎◌, inl, inr, ℕ, ◌<◌, ℤ, Bool, true, List, [], length, refl}
+use Rattle.std.proofs.Common.{◌↔◌, ◌⊎◌, inl, inr, ℕ, ◌<◌, ℤ, true, List, [], refl}
 use Rattle.geom.specs.declared.layer.Layer.{Layer}
 use Rattle.geom.specs.declared.layer.Layer.TheVariants.{Diffusion, Poly, Metal, Cut, Implant}
 use Rattle.geom.specs.Conduction.{Drawing, Conducts}
 use Rattle.geom.specs.Squares.{BoxShape}
 use Rattle.geom.specs.Rows.{Among, Over}
 use Rattle.canonical_boxes.specs.Canonical.{IsCanonical}
-use Rattle.nmos_model.specs.Classes.{IsGraph, Linked}
+use Rattle.nmos_model.specs.Classes.{IsGraph}
 use Rattle.nmos_extract.specs.declared.layers.Layers.{Layers}
 use Rattle.nmos_extract.specs.declared.links.Link.{Link}
 use Rattle.nmos_extract.specs.Conducting.{Conducting, AreSets, AreConducting, boxes_in, node_count}
-use Rattle.nmos_extract.specs.Graphs.{AreBothWays, flipped, targets}
+use Rattle.nmos_extract.specs.Graphs.{AreBothWays, targets}
 use Rattle.nmos_extract.specs.Layers.{AreLayers}
 use Rattle.nmos_extract.specs.Links.{AreLinks, IsLink, link}
 use Rattle.nmos_extract.specs.Links.IsLink.{touch, cuts}

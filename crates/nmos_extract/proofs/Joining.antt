@@ -1,22 +1,21 @@
 -- Boxes that links lead to have joined squares.
-use Rattle.std.proofs.Common.{◌≡◌, ◌↔◌, ◌⊎◌, inl, inr, ℕ, ◌<◌, ◌+◌, ℤ, ◌≤ℤ◌, Bool, true, List, length, refl, sym, ◌∙◌, ap, subst, arith}
+use Rattle.std.proofs.Common.{◌≡◌, ◌↔◌, ◌⊎◌, inl, inr, ℕ, ◌<◌, ℤ, ◌≤ℤ◌, List, length, refl, sym, subst, arith}
 use Rattle.std.proofs.lemmas.Int.{ints}
 use Rattle.geom.specs.declared.layer.Layer.{Layer}
-use Rattle.geom.specs.declared.layer.Layer.TheVariants.{Diffusion, Poly, Metal, Cut, Implant}
-use Rattle.geom.specs.Conduction.{Leads, Drawing, Spot, Conducts, Joined}
+use Rattle.geom.specs.declared.layer.Layer.TheVariants.{Metal, Cut}
+use Rattle.geom.specs.Conduction.{Drawing, Spot, Conducts, Joined}
 use Rattle.geom.specs.Squares.{BoxShape, IsBox}
 use Rattle.geom.specs.Rows.{Among, Over}
 use Rattle.canonical_boxes.specs.Canonical.{IsAt}
 use Rattle.canonical_boxes.specs.Located.{IsOver}
-use Rattle.canonical_boxes.specs.Touches.{IsTouch}
-use Rattle.canonical_boxes.specs.Laws.{AreNumbered, SquaresLeadByTouches, AreTouching, BoxesLead}
+use Rattle.canonical_boxes.specs.Laws.{AreNumbered, SquaresLeadByTouches, BoxesLead}
 use Rattle.canonical_boxes.specs.Laws.BoxesLead.{here, step}
-use Rattle.nmos_model.specs.Classes.{Linked, Reaches}
+use Rattle.nmos_model.specs.Classes.{Reaches}
 use Rattle.nmos_extract.specs.declared.links.Link.{Link}
 use Rattle.nmos_extract.specs.Conducting.{Conducting, boxes_in, node, AreConducting}
 use Rattle.nmos_extract.specs.Links.{AreLinks, IsLink, link}
 use Rattle.nmos_extract.specs.Links.IsLink.{touch, cuts as by_cut}
-use Rattle.nmos_extract.specs.Graphs.{AreBothWays, targets, flipped}
+use Rattle.nmos_extract.specs.Graphs.{AreBothWays, targets}
 use Rattle.nmos_extract.proofs.Nodes.{one_node}
 use Rattle.nmos_extract.proofs.Paths.{leads_within, joined_chain, joined_back, joined_along, spot}
 use Rattle.nmos_extract.proofs.Targets.{of_linked}

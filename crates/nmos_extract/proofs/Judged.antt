@@ -1,15 +1,15 @@
 -- Regions and channels, box by box.
-use Rattle.std.proofs.Common.{◌≡◌, ◌↔◌, ◌⊎◌, inl, inr, ℕ, ◌<◌, ◌≤◌, ◌+◌, ◌&&◌, if◌then◌else◌, ℤ, Bool, true, false, IsTrue, List, [], ◌∷◌, ◌++◌, length, map, get_or, Option, Some, None, refl, sym, ◌∙◌, ap, subst, arith}
+use Rattle.std.proofs.Common.{◌≡◌, ◌↔◌, ℕ, ◌<◌, ◌+◌, ◌&&◌, if◌then◌else◌, Bool, true, false, IsTrue, List, [], ◌∷◌, ◌++◌, length, get_or, Option, Some, None, refl, sym, ◌∙◌, subst, arith}
 use Rattle.std.proofs.lemmas.Grind.{common_steps}
 use Rattle.std.proofs.lemmas.Bool.{and_parts, and_from}
 use Rattle.geom.specs.Squares.{BoxShape}
 use Rattle.canonical_boxes.specs.Canonical.{IsAt}
-use Rattle.canonical_boxes.specs.Held.{Holds, AreHeld}
+use Rattle.canonical_boxes.specs.Held.{Holds}
 use Rattle.nmos_model.specs.declared.channel.Channel.{Channel}
 use Rattle.nmos_extract.specs.declared.sides.Lines.{Lines}
 use Rattle.nmos_extract.specs.declared.sides.Sides.{Sides}
 use Rattle.nmos_extract.specs.Areas.{above, below, left_of, right_of}
-use Rattle.nmos_extract.specs.Sides.{IsFree, AreFree, AreHeldBeside, AreFreeBeside, HasSides, direction, sides_at}
+use Rattle.nmos_extract.specs.Sides.{IsFree, AreHeldBeside, AreFreeBeside, HasSides, direction, sides_at}
 use Rattle.nmos_extract.specs.Regions.{IsRegion, IsSomeRegion, AreRegions, AreChannelsOf, HasSomeSides, IsFirstNot, channel_of}
 use Rattle.nmos_extract.proofs.Lists.{by_order, at_of, at_one, map_at}
 
@@ -28,9 +28,6 @@ longer xs x n e = grind (arith, common_steps)
 pub record AreRegionsBelow (m implant : List BoxShape) (n : ℕ) (depletion : List Bool) : Type 0 where
   pub size : length depletion ≡ n
   pub each : (k : ℕ) (b : BoxShape) → IsAt m k b → k < n → IsRegion m implant (get_or depletion k false) b
-
-pub no_regions : (m implant : List BoxShape) → AreRegionsBelow m implant 0 []
-no_regions m implant = record { size = refl; each = λ k b at l. absurd (omega arith) }
 
 pub region_more : (m implant : List BoxShape) (n : ℕ) (b : BoxShape) (at : IsAt m n b) (d : Bool) (old new : List Bool) → new ≡ old ++ d ∷ []
     → IsRegion m implant d b → AreRegionsBelow m implant n old → AreRegionsBelow m implant (n + 1) new
@@ -68,9 +65,6 @@ pub record AreChannelsBelow (m : List BoxShape) (depletion : List Bool) (diffusi
   pub size : length channels ≡ n
   pub each : (k : ℕ) (b : BoxShape) (c : Channel) → IsAt m k b → IsAt channels k c → k < n
       → (upright : Bool) × HasSides terminals diffusion upright b × (c ≡ channel_of upright (get_or depletion k false) b)
-
-pub no_channels : (m : List BoxShape) (depletion : List Bool) (diffusion terminals : List BoxShape) → AreChannelsBelow m depletion diffusion terminals 0 []
-no_channels m depletion diffusion terminals = record { size = refl; each = λ k b c at there l. absurd (omega arith) }
 
 pub channel_more : (m : List BoxShape) (depletion : List Bool) (diffusion terminals : List BoxShape) (n : ℕ) (b : BoxShape) (at : IsAt m n b)
     (upright : Bool) (old new : List Channel) → new ≡ old ++ channel_of upright (get_or depletion n false) b ∷ []

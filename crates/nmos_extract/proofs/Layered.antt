@@ -1,8 +1,6 @@
 -- The layers of merged boxes are those of the boxes.
 use Rattle.std.proofs.Common.{◌↔◌, ℤ, List}
-use Rattle.geom.specs.declared.layer.Layer.{Layer}
 use Rattle.geom.specs.declared.layer.Layer.TheVariants.{Diffusion, Poly, Metal, Cut, Implant}
-use Rattle.geom.specs.Conduction.{Drawing}
 use Rattle.geom.specs.Squares.{BoxShape, Covered}
 use Rattle.geom.specs.Merged.{Merges}
 use Rattle.geom.specs.Rows.{Over}

@@ -1,5 +1,5 @@
 -- Elements of lists, by number.
-use Rattle.std.proofs.Common.{◌≡◌, ℕ, zero, suc, ◌<◌, ◌≤◌, ◌+◌, pos, List, [], ◌∷◌, ◌++◌, ◌⊎◌, inl, inr, length, map, get_or, take, refl, sym, ◌∙◌, ap, arith, subst}
+use Rattle.std.proofs.Common.{◌≡◌, ℕ, zero, suc, ◌<◌, ◌≤◌, ◌+◌, pos, List, [], ◌∷◌, ◌++◌, ◌⊎◌, inl, inr, length, map, get_or, take, refl, sym, ◌∙◌, ap, arith}
 use Rattle.std.proofs.lemmas.List.{get_or_default, take_more}
 use Rattle.std.proofs.lemmas.Int.{ints, by_lt_z}
 use Rattle.geom.specs.Rows.{Among, Pairwise}
@@ -27,9 +27,6 @@ by_order i j below same above =
 
 pub at_of : {X : Type 0} (xs : List X) (i : ℕ) (d : X) → i < length xs → IsAt xs i (get_or xs i d)
 at_of xs i d h = record { within = h; is = get_or_default xs i (get_or xs i d) d h }
-
-pub at_read : {X : Type 0} (xs : List X) (i : ℕ) (d x : X) → IsAt xs i x → get_or xs i d ≡ x
-at_read xs i d x h = get_or_default xs i d x h.within ∙ h.is
 
 pub at_one : {X : Type 0} (xs : List X) (i : ℕ) (x y : X) → IsAt xs i x → IsAt xs i y → x ≡ y
 at_one xs i x y p q = sym p.is ∙ get_or_default xs i x y p.within ∙ q.is

@@ -1,5 +1,5 @@
 -- The classes of linked boxes are the nets of the drawing.
-use Rattle.std.proofs.Common.{◌≡◌, ◌↔◌, ℕ, ◌<◌, ◌≤◌, ℤ, pos, ◌≤ℤ◌, Bool, true, List, length, Option, Some, None, slice_get, slice_index_or, get_or, refl, sym, ◌∙◌, ap, subst, arith}
+use Rattle.std.proofs.Common.{◌≡◌, ◌↔◌, ℕ, ◌<◌, ℤ, pos, ◌≤ℤ◌, true, List, length, Option, Some, None, get_or, refl, sym, ◌∙◌, ap, arith}
 use Rattle.std.proofs.lemmas.Option.{slice_get-get_or}
 use Rattle.std.proofs.lemmas.Int.{ints}
 use Rattle.geom.specs.declared.layer.Layer.{Layer}
@@ -9,7 +9,7 @@ use Rattle.geom.specs.Squares.{BoxShape}
 use Rattle.geom.specs.Rows.{Over}
 use Rattle.canonical_boxes.specs.Located.{IsOver}
 use Rattle.canonical_boxes.specs.Laws.{AreNumbered, SquaresLeadByTouches}
-use Rattle.nmos_model.specs.Classes.{Classing, IsClassing, Reaches, class_at}
+use Rattle.nmos_model.specs.Classes.{Classing, IsClassing, class_at}
 use Rattle.nmos_model.specs.Nets.{AreNets}
 use Rattle.nmos_extract.specs.declared.links.Link.{Link}
 use Rattle.nmos_extract.specs.Conducting.{Conducting, boxes_in, first_node, node, node_count, AreConducting}

@@ -1,10 +1,9 @@
 -- The number of the box over a square.
-use Rattle.std.proofs.Common.{◌≡◌, ◌⊎◌, inl, inr, ℕ, zero, suc, ◌<◌, ◌&&◌, ℤ, ◌≤ℤ◌, ◌<ℤ◌, int_le, int_lt, Bool, true, false, List, [], ◌∷◌, length, Option, Some, None, if◌then◌else◌, refl, sym, ap, subst, arith}
+use Rattle.std.proofs.Common.{◌≡◌, inl, inr, ℕ, suc, ◌<◌, ℤ, ◌≤ℤ◌, ◌<ℤ◌, int_le, int_lt, Bool, true, false, List, [], ◌∷◌, length, Option, Some, None, if◌then◌else◌, refl, sym, ap, subst, arith}
 use Rattle.std.proofs.lemmas.Int.{ints, by_lt_z}
 use Rattle.std.proofs.lemmas.Bool.{and_parts, and_from}
 use Rattle.geom.specs.Squares.{BoxShape, Inside}
-use Rattle.geom.specs.Rows.{Over}
-use Rattle.canonical_boxes.specs.Canonical.{IsAt, IsCanonical}
+use Rattle.canonical_boxes.specs.Canonical.{IsCanonical}
 use Rattle.canonical_boxes.specs.Located.{IsOver, IsLocated}
 use Rattle.canonical_boxes.specs.Laws.{AreNumbered}
 use Rattle.nmos_extract.specs.NetTables.{is_inside, later, number_over}

@@ -1,12 +1,12 @@
 -- Channels of canonical boxes are near, and in row order.
-use Rattle.std.proofs.Common.{◌≡◌, ◌⊎◌, inl, inr, ℕ, ◌<◌, ℤ, ◌≤ℤ◌, ◌<ℤ◌, Bool, List, length, get_or, sym, ap, subst, arith}
+use Rattle.std.proofs.Common.{◌≡◌, inl, inr, ℕ, ◌<◌, ℤ, ◌<ℤ◌, Bool, List, length, get_or, ap, arith}
 use Rattle.std.proofs.lemmas.Int.{ints}
 use Rattle.geom.specs.Squares.{BoxShape, IsBox}
 use Rattle.geom.specs.Rows.{Among, Pairwise}
-use Rattle.canonical_boxes.specs.Canonical.{BeginsBefore, IsCanonical, IsAt}
+use Rattle.canonical_boxes.specs.Canonical.{IsCanonical, IsAt}
 use Rattle.canonical_boxes.specs.Laws.{AreNumbered}
 use Rattle.nmos_model.specs.declared.channel.Channel.{Channel}
-use Rattle.nmos_model.specs.Channels.{IsEarlier, IsByRow, rectangle_of}
+use Rattle.nmos_model.specs.Channels.{IsEarlier, rectangle_of}
 use Rattle.nmos_model.specs.Devices.{IsNear}
 use Rattle.nmos_extract.specs.Regions.{AreChannelsOf}
 use Rattle.nmos_extract.proofs.Lists.{at_of, among_at, pairwise_of}

@@ -1,7 +1,6 @@
 -- What the sets of a drawing are, and what follows of results.
 use Rattle.std.proofs.Common.{◌↔◌, ℤ, List, Result, Ok, Err, IfOk, OnOk}
-use Rattle.geom.specs.declared.layer.Layer.TheVariants.{Diffusion, Poly}
-use Rattle.geom.specs.Conduction.{Drawing, IsChannel}
+use Rattle.geom.specs.Conduction.{Drawing}
 use Rattle.geom.specs.Squares.{BoxShape}
 use Rattle.geom.specs.Rows.{Over}
 use Rattle.nmos_extract.specs.declared.layers.Layers.{Layers}

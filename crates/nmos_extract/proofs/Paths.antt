@@ -1,5 +1,5 @@
 -- Paths of squares, of boxes and of spots.
-use Rattle.std.proofs.Common.{◌≡◌, ℤ, inl, inr, refl, sym, subst}
+use Rattle.std.proofs.Common.{ℤ, inl, inr, refl, sym}
 use Rattle.geom.specs.declared.layer.Layer.{Layer}
 use Rattle.geom.specs.Rows.{Squares}
 use Rattle.geom.specs.Conduction.{IsNext, ShareSide, Leads, Drawing, Spot, Conducts, IsJoin, Joined}

@@ -12,7 +12,7 @@ use denote.Param.Members.{Mut}
 use Rattle.geom.specs.Rows.{Among, Pairwise}
 use Rattle.canonical_boxes.specs.Canonical.{IsAt}
 use Rattle.nmos_extract.specs.declared.links.Link.{Link}
-use Rattle.nmos_extract.specs.Graphs.{AreBothWays, IsNoLater, flipped, is_before, is_up_to}
+use Rattle.nmos_extract.specs.Graphs.{AreBothWays, IsNoLater, is_before, is_up_to}
 use Rattle.nmos_extract.proofs.Lists.{by_order, at_of, at_among}
 
 -- what holds of each element and the next holds of each and every one behind it, where it is transitive

@@ -1,12 +1,12 @@
 -- Where the links of a list lead.
-use Rattle.std.proofs.Common.{◌≡◌, ◌↔◌, ◌⊎◌, inl, inr, ℕ, zero, suc, ◌<◌, ◌≤◌, ◌+◌, ◌-◌, ◌==◌, Bool, true, false, if◌then◌else◌, List, [], ◌∷◌, length, slice_get, get_or, Option, Some, None, refl, sym, ◌∙◌, ap, subst, arith}
+use Rattle.std.proofs.Common.{◌≡◌, ◌↔◌, inl, inr, ℕ, zero, suc, ◌<◌, ◌≤◌, ◌+◌, ◌==◌, Bool, true, false, if◌then◌else◌, List, [], ◌∷◌, length, slice_get, get_or, Some, refl, sym, subst, arith}
 use Rattle.std.proofs.lemmas.Bool.Decides.{nat_tests}
 use Rattle.geom.specs.Rows.{Among, Pairwise}
 use Rattle.canonical_boxes.specs.Canonical.{IsAt}
-use Rattle.nmos_model.specs.Classes.{Linked, IsGraph}
+use Rattle.nmos_model.specs.Classes.{Linked}
 use Rattle.nmos_extract.specs.declared.links.Link.{Link}
 use Rattle.nmos_extract.specs.Links.{link}
-use Rattle.nmos_extract.specs.Graphs.{IsNoLater, flipped, targets, is_before, is_up_to}
+use Rattle.nmos_extract.specs.Graphs.{IsNoLater, targets, is_before, is_up_to}
 use Rattle.nmos_extract.proofs.Lists.{at_among}
 
 same_link : (l : Link) (a b : ℕ) → l.from ≡ a → l.to ≡ b → l ≡ link a b

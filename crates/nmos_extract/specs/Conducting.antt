@@ -1,5 +1,5 @@
 -- The conducting squares of a drawing as boxes, which are the nodes of a graph.
-use Rattle.std.specs.Prelude.{◌≡◌, ◌↔◌, ℕ, ◌+◌, ℤ, List, [], length}
+use Rattle.std.specs.Prelude.{◌↔◌, ℕ, ◌+◌, ℤ, List, [], length}
 use Rattle.geom.specs.declared.layer.Layer.{Layer}
 use Rattle.geom.specs.declared.layer.Layer.TheVariants.{Diffusion, Poly, Metal, Cut, Implant}
 use Rattle.geom.specs.Conduction.{Drawing, Conducts}

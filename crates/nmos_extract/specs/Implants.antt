@@ -1,5 +1,5 @@
 -- Whether boxes lie wholly under implant, or wholly beside it.
-use Rattle.std.specs.Prelude.{◌≡◌, ◌↔◌, ℕ, Bool, true, false, IsTrue, List, length, slice_index_or}
+use Rattle.std.specs.Prelude.{◌≡◌, ◌↔◌, ℕ, true, false, IsTrue, List, length, slice_index_or}
 use Rattle.geom.specs.Squares.{BoxShape}
 use Rattle.canonical_boxes.specs.Canonical.{IsAt}
 use Rattle.nmos_extract.specs.declared.regions.Covers.{Covers}

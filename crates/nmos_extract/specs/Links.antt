@@ -1,5 +1,5 @@
 -- Links between boxes that conduct: where they touch in a layer, and where a cut joins two layers.
-use Rattle.std.specs.Prelude.{◌≡◌, ◌↔◌, ◌⊎◌, ℕ, ◌+◌, ℤ, List, [], ◌∷◌, ◌++◌, Option, Some, None}
+use Rattle.std.specs.Prelude.{◌≡◌, ◌⊎◌, ℕ, ◌+◌, ℤ, List, [], ◌∷◌, ◌++◌, Option, Some, None}
 use Rattle.geom.specs.declared.layer.Layer.{Layer}
 use Rattle.geom.specs.declared.layer.Layer.TheVariants.{Diffusion, Poly, Metal}
 use Rattle.geom.specs.Conduction.{Leads}
@@ -17,7 +17,8 @@ link from to = record { from = from; to = to }
 -- The second list has the links of the first, and one for each touch of these boxes, whose nodes begin here.
 pub record AddsTouches (m : List BoxShape) (first : ℕ) (old new : List Link) : Type 0 where
   pub kept : (l : Link) → Among old l → Among new l
-  pub sound : (l : Link) → Among new l → Among old l ⊎ ((i : ℕ) × (j : ℕ) × IsTouch m (record { lower = i; upper = j }) × (l ≡ link (first + i) (first + j)))
+  pub sound : (l : Link) → Among new l → Among old l
+      ⊎ ((i : ℕ) × (j : ℕ) × IsTouch m (record { lower = i; upper = j }) × (l ≡ link (first + i) (first + j)))
   pub all : (i j : ℕ) → IsTouch m (record { lower = i; upper = j }) → Among new (link (first + i) (first + j))
 
 -- The second list has the links of the first, and links between the boxes of two sets over squares of these places: at least for one square
@@ -43,7 +44,8 @@ pub record IsUnderCut (c : Conducting) (cuts : List BoxShape) (layer : Layer) (x
 
 -- The boxes touch in a layer, or a cut joins a box of metal to one of another layer.
 pub data IsLink (c : Conducting) (cut : List BoxShape) : Link → Type 0 where
-  touch : (layer : Layer) (i j : ℕ) → IsTouch (boxes_in c layer) (record { lower = i; upper = j }) → IsLink c cut (link (node c layer i) (node c layer j))
+  touch : (layer : Layer) (i j : ℕ) → IsTouch (boxes_in c layer) (record { lower = i; upper = j })
+      → IsLink c cut (link (node c layer i) (node c layer j))
   cuts : (layer : Layer) (x y : ℤ) (i j : ℕ) → Over cut x y → IsOver c.metal x y i → IsOver (boxes_in c layer) x y j
       → IsLink c cut (link (node c Metal i) (node c layer j))
 
@@ -58,6 +60,7 @@ pub record HasCutLink (c : Conducting) (cut : List BoxShape) (layer : Layer) (li
 -- squares under cuts.
 pub record AreLinks (c : Conducting) (cut : List BoxShape) (links : List Link) : Type 0 where
   pub sound : (l : Link) → Among links l → IsLink c cut l
-  pub touches : (layer : Layer) (i j : ℕ) → IsTouch (boxes_in c layer) (record { lower = i; upper = j }) → Among links (link (node c layer i) (node c layer j))
+  pub touches : (layer : Layer) (i j : ℕ) → IsTouch (boxes_in c layer) (record { lower = i; upper = j })
+      → Among links (link (node c layer i) (node c layer j))
   pub poly : (x y : ℤ) → IsUnderCut c cut Poly x y → HasCutLink c cut Poly links x y
   pub diffusion : (x y : ℤ) → IsUnderCut c cut Diffusion x y → HasCutLink c cut Diffusion links x y

@@ -1,12 +1,11 @@
 -- Boxes of channel squares that are regions of their own, wholly under implant or wholly beside it, and the first that is not.
-use Rattle.std.specs.Prelude.{◌≡◌, ℕ, ◌<◌, ℤ, pos, Bool, true, false, List, length, slice_index_or}
+use Rattle.std.specs.Prelude.{◌≡◌, ℕ, ◌<◌, ℤ, Bool, true, false, List, length, slice_index_or}
 use Rattle.rx_text.specs.declared.place.Place.TheVariants.{Square}
 use Rattle.geom.specs.Squares.{BoxShape, Inside}
 use Rattle.geom.specs.Rows.{Over}
 use Rattle.canonical_boxes.specs.Canonical.{IsAt}
 use Rattle.nmos_model.specs.declared.channel.Channel.{Channel}
 use Rattle.nmos_model.specs.declared.refusal.ExtractCode.{ExtractCode}
-use Rattle.nmos_model.specs.declared.refusal.ExtractCode.TheVariants.{X1, X2}
 use Rattle.nmos_model.specs.declared.refusal.ReadChipFault.{ReadChipFault}
 use Rattle.nmos_model.specs.declared.refusal.ReadChipFault.TheVariants.{Fault, NoMemory}
 use Rattle.nmos_extract.specs.Areas.{above}
@@ -38,7 +37,8 @@ pub record IsFirstNot (P : BoxShape → Type 0) (m : List BoxShape) (number : �
 
 -- The fault has this code, at the first square of the first box of which P does not hold.
 abbrev pub IsFaultAt : ExtractCode → (BoxShape → Type 0) → List BoxShape → ReadChipFault → Type 0
-IsFaultAt code P m (Fault fault) = (number : ℕ) × (b : BoxShape) × IsFirstNot P m number b × (fault ≡ record { code = code; place = Square b.x1 b.y1 })
+IsFaultAt code P m (Fault fault) = (number : ℕ) × (b : BoxShape) × IsFirstNot P m number b
+    × (fault ≡ record { code = code; place = Square b.x1 b.y1 })
 IsFaultAt code P m NoMemory = Unit {0}
 
 -- the channel of the box

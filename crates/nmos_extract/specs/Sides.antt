@@ -51,8 +51,10 @@ pub record HaveSize (lines : Lines) (n : ℕ) : Type 0 where
 -- One set has all squares of the lines on two opposite sides of the box, and the other none on the two others: above and below it where
 -- it is upright, else to its left and right.
 abbrev pub HasSides : List BoxShape → List BoxShape → Bool → BoxShape → Type 0
-HasSides terminals diffusion true b = Holds terminals (above b) × Holds terminals (below b) × IsFree diffusion (left_of b) × IsFree diffusion (right_of b)
-HasSides terminals diffusion false b = Holds terminals (left_of b) × Holds terminals (right_of b) × IsFree diffusion (above b) × IsFree diffusion (below b)
+HasSides terminals diffusion true b =
+    Holds terminals (above b) × Holds terminals (below b) × IsFree diffusion (left_of b) × IsFree diffusion (right_of b)
+HasSides terminals diffusion false b =
+    Holds terminals (left_of b) × Holds terminals (right_of b) × IsFree diffusion (above b) × IsFree diffusion (below b)
 
 -- whether it is upright, where all of two opposite sides is held, and the others are free
 abbrev pub direction : Sides → Sides → Option Bool

@@ -1,7 +1,6 @@
 // Graphs by their links.
 
 ghost use Rattle.std.specs.Prelude.{◌≡◌, ◌↔◌, ◌<◌, ◌≤◌, ℕ, Some, true, length, slice_get, IfOk};
-ghost use Rattle.geom.specs.Rows.{Among};
 ghost use Rattle.canonical_boxes.specs.Canonical.{IsAt};
 ghost use Rattle.nmos_extract.specs.declared.links.Link.{Link};
 ghost use Rattle.nmos_extract.specs.Graphs.{AreBothWays, IsNoLater, is_before, is_up_to, targets};

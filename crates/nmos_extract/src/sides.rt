@@ -1,6 +1,6 @@
 // The lines of squares beside boxes: whether a set has all of their squares, or none.
 
-ghost use Rattle.std.specs.Prelude.{◌≡◌, ◌&&◌, ◌<◌, ℕ, length, IfOk};
+ghost use Rattle.std.specs.Prelude.{◌≡◌, ◌&&◌, ◌<◌, ℕ, IfOk};
 ghost use Rattle.nmos_extract.specs.Sides.{AreFreeBeside, AreHeldBeside, HaveSize, direction, sides_at};
 
 use crate::areas::{all_above, all_below, all_left, all_right};

@@ -1,5 +1,5 @@
 -- Boxes of channel squares are the channels.
-use Rattle.std.proofs.Common.{◌≡◌, Bool, List, IfOk, IfErr, Vec, length, sym, ◌∙◌, ap, subst}
+use Rattle.std.proofs.Common.{List, length, sym, ◌∙◌, ap, subst}
 use Rattle.std.proofs.lemmas.Result.{IfOk-weaker, IfErr-weaker, err_from_is_err_and}
 use Rattle.geom.specs.Rows.{Among, Pairwise}
 use Rattle.geom.specs.Squares.{BoxShape, Covered}

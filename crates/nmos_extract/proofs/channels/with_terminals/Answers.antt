@@ -1,5 +1,5 @@
 -- Each box is a channel, or the first without terminals.
-use Rattle.std.proofs.Common.{◌≡◌, ◌<◌, [], ◌∷◌, ◌++◌, Some, None, List, length, get_or, refl, sym, ◌∙◌, ap, subst, arith}
+use Rattle.std.proofs.Common.{◌≡◌, [], ◌∷◌, ◌++◌, Some, None, List, refl, sym, ◌∙◌, ap, subst, arith}
 use Rattle.geom.specs.Squares.{BoxShape}
 use Rattle.canonical_boxes.specs.Canonical.{IsAt}
 use Rattle.nmos_model.specs.declared.channel.Channel.{Channel}

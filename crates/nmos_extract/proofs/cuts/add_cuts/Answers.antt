@@ -1,9 +1,8 @@
 -- Each place adds a link, where both boxes are found.
-use Rattle.std.proofs.Common.{◌≡◌, ◌<◌, pos, List, length, get_or, sym, ◌∙◌, ap, map, subst, arith}
+use Rattle.std.proofs.Common.{pos, List, length, get_or, ◌∙◌, ap, subst, arith}
 use Rattle.geom.specs.declared.layer.Layer.TheVariants.{Diffusion}
 use Rattle.geom.specs.Squares.{BoxShape}
 use Rattle.canonical_boxes.specs.Canonical.{IsAt}
-use Rattle.canonical_boxes.specs.Located.{IsLocated}
 use Rattle.nmos_extract.proofs.Adding.{found_located, found_below, found_added, found_size, cuts_added}
 use Rattle.nmos_extract.proofs.Lists.{at_of}
 use Rattle.nmos_extract.proofs.cuts.add_cuts.Goals as goal

@@ -1,5 +1,5 @@
 -- The parts are those of the drawing.
-use Rattle.std.proofs.Common.{◌≡◌, ℕ, List, sym, subst}
+use Rattle.std.proofs.Common.{ℕ, List, sym, subst}
 use Rattle.std.proofs.lemmas.Result.{IfErr-weaker, err_from_is_err_and}
 use Rattle.geom.specs.Rows.{Among, Pairwise}
 use Rattle.geom.specs.Squares.{BoxShape, Covered}

@@ -1,5 +1,5 @@
 -- Each touch adds its link.
-use Rattle.std.proofs.Common.{◌≡◌, ◌<◌, List, [], ◌∷◌, ◌++◌, length, take, get_or, sym, ◌∙◌, ap, subst, arith}
+use Rattle.std.proofs.Common.{◌<◌, List, [], ◌∷◌, ◌++◌, length, take, get_or, sym, ◌∙◌, ap, subst, arith}
 use Rattle.std.proofs.lemmas.List.{take_more, take_all}
 use Rattle.canonical_boxes.specs.declared.touching.Touch.{Touch}
 use Rattle.canonical_boxes.specs.Touches.{AreTouches, IsTouch}

@@ -1,11 +1,10 @@
 -- The classes of the boxes are the nets.
-use Rattle.std.proofs.Common.{◌≡◌, ℕ, ◌<◌, true, List, length, sym, ◌∙◌, ap, subst, arith}
-use Rattle.geom.specs.Squares.{BoxShape, Covered}
+use Rattle.std.proofs.Common.{◌≡◌, ℕ, true, List, length, sym, ◌∙◌, subst, arith}
+use Rattle.geom.specs.Squares.{Covered}
 use Rattle.nmos_model.specs.Classes.{IsClassing, IsGraph}
 use Rattle.nmos_extract.specs.declared.links.Link.{Link}
 use Rattle.nmos_extract.specs.Conducting.{AreConducting, AreSets, Conducting, node_count}
 use Rattle.nmos_extract.specs.Graphs.{AreBothWays, targets}
-use Rattle.nmos_extract.specs.Links.{AreLinks}
 use Rattle.nmos_extract.proofs.Graphed.{conducting_layers, is_graph}
 use Rattle.nmos_extract.proofs.Netted.{are_nets}
 use Rattle.nmos_extract.proofs.nets.nets_of.Goals as goal

@@ -1,5 +1,5 @@
 -- Each box is a region, or the first that is none.
-use Rattle.std.proofs.Common.{◌≡◌, ◌<◌, pos, Bool, List, length, get_or, refl, sym, ◌∙◌, ap, subst, arith}
+use Rattle.std.proofs.Common.{pos, List, length, get_or, refl, sym, ◌∙◌, ap, subst, arith}
 use Rattle.geom.specs.declared.layer.Layer.TheVariants.{Diffusion}
 use Rattle.geom.specs.Squares.{BoxShape}
 use Rattle.canonical_boxes.specs.Canonical.{IsAt}

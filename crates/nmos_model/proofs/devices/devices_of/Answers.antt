@@ -23,7 +23,7 @@ loop-at-preserved g c =
     let size = matched_length (HasEnds net) channels c.in_ok-ends.ends.items c.in_ok-ends.ensures in
     let lt : c.loop-at.at < length c.in_ok-ends.ends.items = omega (arith, size, c.loop-at-test.true) in
     let has : HasEnds net channel found = subst (HasEnds net channel) (sym c.index.ensures)
-    (matched_at (HasEnds net) channels c.in_ok-ends.ends.items c.loop-at.at blank found c.in_ok-ends.ensures lt) in
+        (matched_at (HasEnds net) channels c.in_ok-ends.ends.items c.loop-at.at blank found c.in_ok-ends.ensures lt) in
     let last = take_more channels c.loop-at.at blank c.loop-at-test.true in
     rw (last, c.in_ok-push-in-Some.ensures.items)
     (matched_more (IsDeviceOf net c.args.vdd) (take c.loop-at.at channels) c.loop-at.devices.items _
@@ -39,7 +39,7 @@ returns-in-None-clause-fault g c =
     let size = matched_length (HasEnds net) channels c.in_ok-ends.ends.items c.in_ok-ends.ensures in
     let lt : c.loop-at.at < length c.in_ok-ends.ends.items = omega (arith, size, c.loop-at-test.true) in
     let has : HasEnds net channel found = subst (HasEnds net channel) (sym c.index.ensures)
-    (matched_at (HasEnds net) channels c.in_ok-ends.ends.items c.loop-at.at blank found c.in_ok-ends.ensures lt) in
+        (matched_at (HasEnds net) channels c.in_ok-ends.ends.items c.loop-at.at blank found c.in_ok-ends.ensures lt) in
     rw c.odd_load.ensures (
       _,
       _,

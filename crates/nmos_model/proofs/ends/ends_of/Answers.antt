@@ -44,11 +44,11 @@ loop-at-preserved g c =
     let at = c.loop-at.at in
     let lt = c.loop-at-test.true in
     let gate = found_at net gate_site channels c.deref.result.now c.in_ok-gates.gates.items at blank c.index.result.now
-    lt (c.deref.ensures.value ∙ c.in_ok-sites.ensures.gates) c.in_ok-gates.ensures c.index.ensures in
+        lt (c.deref.ensures.value ∙ c.in_ok-sites.ensures.gates) c.in_ok-gates.ensures c.index.ensures in
     let first = found_at net first_site channels c.deref-2.result.now c.in_ok-firsts.firsts.items at blank c.index-in-loop-at.result.now
-    lt (c.deref-2.ensures.value ∙ c.in_ok-sites.ensures.firsts) c.in_ok-firsts.ensures c.index-in-loop-at.ensures in
+        lt (c.deref-2.ensures.value ∙ c.in_ok-sites.ensures.firsts) c.in_ok-firsts.ensures c.index-in-loop-at.ensures in
     let second = found_at net second_site channels c.deref-3.result.now c.in_ok-seconds.seconds.items at blank c.index-in-loop-at-2.result.now
-    lt (c.deref-3.ensures.value ∙ c.in_ok-sites.ensures.seconds) c.in_ok-seconds.ensures c.index-in-loop-at-2.ensures in
+        lt (c.deref-3.ensures.value ∙ c.in_ok-sites.ensures.seconds) c.in_ok-seconds.ensures c.index-in-loop-at-2.ensures in
     rw (take_more channels at blank lt, c.in_ok-push.ensures.items)
     (matched_more (HasEnds net) (take at channels) c.loop-at.ends.items (get_or channels at blank) _ c.loop-at.invariant
     (record { gate = cc (gate, c.unwrap.ensures); first = cc (first, c.unwrap-in-loop-at.ensures); second = cc (second, c.unwrap-in-loop-at-2.ensures) }))

@@ -19,7 +19,7 @@ loop-at-preserved g c =
     let label = c.index-labels-at.result in
     let last = take_more labels c.loop-at.at label c.loop-at-test.true in
     let found = found_at net label_site labels c.deref.result.now c.in_ok-found.found.items c.loop-at.at label c.index.result.now c.loop-at-test.true
-    (c.deref.ensures.value ∙ c.in_ok-sites.ensures) c.in_ok-found.ensures c.index.ensures in
+        (c.deref.ensures.value ∙ c.in_ok-sites.ensures) c.in_ok-found.ensures c.index.ensures in
     let here : c.index.result.now ≡ label_net net label = subst (λ (l : Label). c.index.result.now ≡ label_net net l) (sym c.index-labels-at.is) found in
     record {
       pads = rw (last, ← c.index-labels-at.is, c.in_ok-push-in-Some.ensures.items)
@@ -38,7 +38,7 @@ returns-in-None-clause-fault g c =
     let labels = c.args.labels.now in
     let label = c.index-labels-at.result in
     let found = found_at net label_site labels c.deref.result.now c.in_ok-found.found.items c.loop-at.at label c.index.result.now c.loop-at-test.true
-    (c.deref.ensures.value ∙ c.in_ok-sites.ensures) c.in_ok-found.ensures c.index.ensures in
+        (c.deref.ensures.value ∙ c.in_ok-sites.ensures) c.in_ok-found.ensures c.index.ensures in
     let here : c.index.result.now ≡ label_net net label = subst (λ (l : Label). c.index.result.now ≡ label_net net l) (sym c.index-labels-at.is) found in
     rw c.fault_at.ensures
     (label_on_nothing label.x label.y

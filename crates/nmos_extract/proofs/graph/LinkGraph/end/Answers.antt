@@ -1,5 +1,5 @@
 -- The links that pass stand first, and the search finds how many.
-use Rattle.std.proofs.Common.{◌≡◌, ◌↔◌, ℕ, ◌<◌, ◌^◌, true, List, length, rules, sym, subst}
+use Rattle.std.proofs.Common.{◌≡◌, ◌↔◌, ℕ, ◌<◌, true, List, rules, sym, subst}
 use Rattle.std.proofs.lemmas.List.Sorted.{IsPartitionPoint-from_clause}
 use Rattle.geom.specs.Rows.{Pairwise}
 use Rattle.canonical_boxes.specs.Canonical.{IsAt}

@@ -1,8 +1,6 @@
 -- The sort keeps the links and puts them in the order of their nodes.
-use Rattle.std.proofs.Common.{◌≡◌, ◌<◌, ◌^◌, List, length, rules, sym, subst, arith}
+use Rattle.std.proofs.Common.{rules, arith}
 use Rattle.std.proofs.lemmas.List.Sorted.{length_permutation}
-use Rattle.nmos_extract.specs.declared.links.Link.{Link}
-use Rattle.nmos_extract.specs.Graphs.{AreBothWays}
 use Rattle.nmos_extract.proofs.Sorted.{sorted_links, ways_permuted}
 use Rattle.nmos_extract.proofs.graph.LinkGraph.new.Goals as goal
 

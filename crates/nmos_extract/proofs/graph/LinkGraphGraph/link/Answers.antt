@@ -1,8 +1,7 @@
 -- The link stands behind those of the nodes before.
-use Rattle.std.proofs.Common.{◌≡◌, ◌+◌, ◌<◌, ◌≤◌, List, Some, length, get_or, slice_get, rules, sym, ◌∙◌, ap, subst, arith}
-use Rattle.geom.specs.Rows.{Pairwise}
+use Rattle.std.proofs.Common.{◌≡◌, ◌<◌, ◌≤◌, List, Some, length, slice_get, sym, ◌∙◌, ap, subst, arith}
 use Rattle.nmos_extract.specs.declared.links.Link.{Link}
-use Rattle.nmos_extract.specs.Graphs.{IsNoLater, LinkList, is_before, targets}
+use Rattle.nmos_extract.specs.Graphs.{LinkList, is_before, targets}
 use Rattle.nmos_extract.proofs.Targets.{Parts, link_at, link_within}
 use Rattle.nmos_extract.proofs.graph.LinkGraphGraph.link.Goals as goal
 

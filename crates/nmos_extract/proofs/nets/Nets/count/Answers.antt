@@ -1,6 +1,6 @@
 -- There are no more classes than nodes.
-use Rattle.std.proofs.Common.{◌≡◌, List, length, sym, ◌∙◌, ap, subst, arith}
-use Rattle.nmos_extract.specs.NetTables.{NetTable, net_count}
+use Rattle.std.proofs.Common.{length, ◌∙◌, ap, arith}
+use Rattle.nmos_extract.specs.NetTables.{net_count}
 use Rattle.nmos_extract.proofs.nets.Nets.count.Goals as goal
 
 pub overflow_cast-result : goal.overflow_cast-result

@@ -1,5 +1,5 @@
 -- Each site adds its net.
-use Rattle.std.proofs.Common.{◌≡◌, ℕ, ◌<◌, pos, [], ◌∷◌, ◌++◌, IfSome, List, Option, length, get_or, sym, ◌∙◌, ap, subst}
+use Rattle.std.proofs.Common.{◌≡◌, ℕ, ◌<◌, pos, [], ◌∷◌, ◌++◌, IfSome, Option, length, get_or, ◌∙◌, ap, subst}
 use Rattle.geom.specs.declared.layer.Layer.TheVariants.{Diffusion}
 use Rattle.canonical_boxes.specs.Canonical.{IsAt}
 use Rattle.nmos_model.specs.declared.sites.Site.{Site}

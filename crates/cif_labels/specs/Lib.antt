@@ -1,5 +1,0 @@
--- Definitions that public contracts cite:
-pub mod Labelled
--- Definitions that serve private contracts alone:
-pub mod Words
-pub mod Spots
