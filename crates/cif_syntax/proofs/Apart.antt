@@ -32,18 +32,10 @@ one_longer [] more ys rest e = inl (record { middle = ys; is = refl; behind = e 
 one_longer (x ∷ xs) more [] rest e = inr (record { middle = x ∷ xs; is = refl; behind = sym e })
 one_longer (x ∷ xs) more (y ∷ ys) rest e =
     elim (one_longer xs more ys rest (tails e)) [
-      | inl l ↦ inl (record {
-        middle = l.middle;
-        is = ap (λ (m : List ℕ). y ∷ m) l.is ∙ ap (λ (v : ℕ). v ∷ (xs ++ l.middle)) (sym
-            (heads e));
-        behind = l.behind;
-      })
-      | inr l ↦ inr (record {
-        middle = l.middle;
-        is = ap (λ (m : List ℕ). x ∷ m) l.is ∙ ap (λ (v : ℕ). v ∷ (ys ++ l.middle))
-            (heads e);
-        behind = l.behind;
-      })
+      | inl l ↦ inl (record { middle = l.middle; is = ap (λ (m : List ℕ). y ∷ m) l.is ∙ ap (λ (v : ℕ). v ∷ (xs ++ l.middle)) (sym
+          (heads e)); behind = l.behind })
+      | inr l ↦ inr (record { middle = l.middle; is = ap (λ (m : List ℕ). x ∷ m) l.is ∙ ap (λ (v : ℕ). v ∷ (ys ++ l.middle))
+          (heads e); behind = l.behind })
     ]
 
 -- ---- behind a sentence
@@ -75,49 +67,40 @@ one_sentence xs ys more rest s t e =
 -- before the byte that breaks it, something is due
 due_before : (front rest : List ℕ) → BreaksCommand front rest → (due : Due) × (along First front ≡ Some due)
 due_before front rest b = elim b.breaks [
-  | inl s ↦ leads_on front s.begins
-  | inr z ↦ (let g = zero_gap front rest z b.first in (g.0, g.1))
-]
+  inl s ↦ leads_on front s.begins
+  | inr z ↦ (let g = zero_gap front rest z b.first in (g.0, g.1)) ]
 
 -- a front with a byte more begins what a longer one begins
 begins_more : (front : List ℕ) (byte : ℕ) (others long : List ℕ) → long ≡ front ++ byte ∷ others → BeginsSentence long → BeginsSentence
     (front ++ byte ∷ [])
-begins_more front byte others long e b = (
-  others ++ b.0,
-  (let P : List ℕ → Type 0 = λ l. IsSentence l in
-      subst P (ap (λ (l : List ℕ). l ++ b.0) e ∙ (append_assoc front (byte ∷ others) b.0 ∙ sym (append_assoc front (byte ∷ [])
-      (others ++ b.0)))) b.1),
-)
+begins_more front byte others long e b =
+    (others ++ b.0, (let P : List ℕ → Type 0 = λ l. IsSentence l in
+    subst P (ap (λ (l : List ℕ). l ++ b.0) e ∙ (append_assoc front (byte ∷ others) b.0 ∙ sym (append_assoc front (byte ∷ [])
+        (others ++ b.0)))) b.1))
 
 -- no sentence goes on with that byte
 no_sentence_on : (front rest : List ℕ) (byte : ℕ) (others : List ℕ) (long more : List ℕ) → BreaksCommand front rest → IsSentence long
     → long ≡ front ++ byte ∷ others → rest ≡ byte ∷ (others ++ more) → ⊥
 no_sentence_on front rest byte others long more b s e r = elim b.breaks [
-  | inl stop ↦ stop.stops (let P : ℕ → Type 0 = λ v. BeginsSentence (front ++ v ∷ []) in
-      subst P (heads (sym r ∙ stop.next)) (begins_more front byte others long e (
-        [],
-        (let Q : List ℕ → Type 0 = λ l. IsSentence l in subst Q (sym
-            (append-nil long)) s),
-      )))
+  inl stop ↦ stop.stops (let P : ℕ → Type 0 = λ v. BeginsSentence (front ++ v ∷ []) in
+    subst P (heads (sym r ∙ stop.next)) (begins_more front byte others long e ([], (let Q : List ℕ → Type 0 = λ l. IsSentence l in subst Q (sym
+        (append-nil long)) s))))
   | inr z ↦ no_zero_before long more Whole (sentence_run long s) (λ slot scale due. cc) front byte others e
-      (let P : List ℕ → Type 0 = λ l. ScaleIsZero front l in subst P r z)
-]
+    (let P : List ℕ → Type 0 = λ l. ScaleIsZero front l in subst P r z) ]
 
 -- that front is no sentence
 no_whole_front : (front rest : List ℕ) → BreaksCommand front rest → IsSentence front → ⊥
 no_whole_front front rest b s = elim b.breaks [
-  | inl stop ↦ stop.open_yet s
+  inl stop ↦ stop.open_yet s
   | inr z ↦ (let g = zero_gap front rest z b.first in
-      let w : Some Whole ≡ Some (Gap g.2.before) = sym (sentence_run front s) ∙ (g.1 ∙ ap (λ (d : Due). Some d) g.2.is) in absurd cc)
-]
+    let w : Some Whole ≡ Some (Gap g.2.before) = sym (sentence_run front s) ∙ (g.1 ∙ ap (λ (d : Due). Some d) g.2.is) in absurd cc) ]
 
 no_break : (xs rest before behind : List ℕ) → IsSentence xs → BreaksCommand before behind → xs ++ rest ≡ before ++ behind → ⊥
 no_break xs rest before behind s b e = elim (one_longer before behind xs rest (sym e)) [
-  | inl l ↦ by l.middle l.is l.behind
+  inl l ↦ by l.middle l.is l.behind
   | inr l ↦ (let d = due_before before behind b in
-      let P : List ℕ → Type 0 = λ m. IsSentence m in
-      no_whole_front before behind b (subst P (sym (no_longer xs rest before behind d.0 s d.1 l)) s))
-]
+    let P : List ℕ → Type 0 = λ m. IsSentence m in
+    no_whole_front before behind b (subst P (sym (no_longer xs rest before behind d.0 s d.1 l)) s)) ]
   where
     by : (middle : List ℕ) → xs ≡ before ++ middle → behind ≡ middle ++ rest → ⊥
     by [] is r = let P : List ℕ → Type 0 = λ m. IsSentence m in no_whole_front before behind b (subst P (is ∙ append-nil before) s)
@@ -131,18 +114,16 @@ no_later before behind front rest b c l = by l.middle l.is l.behind
     by : (middle : List ℕ) → front ≡ before ++ middle → behind ≡ middle ++ rest → before ≡ front
     by [] is r = sym (is ∙ append-nil before)
     by (m ∷ ms) is r = absurd (elim b.breaks [
-      | inl stop ↦ (let d = due_before front rest c in
-          let P : ℕ → Type 0 = λ v. BeginsSentence (before ++ v ∷ []) in
-          stop.stops (subst P (heads (sym r ∙ stop.next)) (begins_more before m ms front is (begins front d.0 d.1))))
-      | inr z ↦ c.first before m ms is (let P : List ℕ → Type 0 = λ v. ScaleIsZero before v in subst P r z)
-    ])
+      inl stop ↦ (let d = due_before front rest c in
+        let P : ℕ → Type 0 = λ v. BeginsSentence (before ++ v ∷ []) in
+        stop.stops (subst P (heads (sym r ∙ stop.next)) (begins_more before m ms front is (begins front d.0 d.1))))
+      | inr z ↦ c.first before m ms is (let P : List ℕ → Type 0 = λ v. ScaleIsZero before v in subst P r z) ])
 
 one_break : (before behind front rest : List ℕ) → BreaksCommand before behind → BreaksCommand front rest → before ++ behind ≡ front ++ rest
     → before ≡ front
 one_break before behind front rest b c e = elim (one_longer before behind front rest e) [
-  | inl l ↦ no_later before behind front rest b c l
-  | inr l ↦ sym (no_later front rest before behind c b l)
-]
+  inl l ↦ no_later before behind front rest b c l
+  | inr l ↦ sym (no_later front rest before behind c b l) ]
 
 -- ---- where a sentence is cut
 
@@ -160,11 +141,10 @@ some_digits (b ∷ bs) h = (b, bs, refl)
 
 not_both : (before behind bytes : List ℕ) → BreaksCommand before behind → CutsCommand bytes → bytes ≡ before ++ behind → ⊥
 not_both before behind bytes b c e = elim b.breaks [
-  | inl stop ↦ stop.stops (begins_more before stop.byte stop.others bytes (e ∙ ap (λ (l : List ℕ). before ++ l) stop.next) c.begins)
+  inl stop ↦ stop.stops (begins_more before stop.byte stop.others bytes (e ∙ ap (λ (l : List ℕ). before ++ l) stop.next) c.begins)
   | inr z ↦ (let d = some_digits behind z.zero.some in
-      let P : List ℕ → Type 0 = λ v. ScaleIsZero before v in
-      c.unbroken before d.0 d.1 (e ∙ ap (λ (l : List ℕ). before ++ l) d.2) (subst P d.2 z))
-]
+    let P : List ℕ → Type 0 = λ v. ScaleIsZero before v in
+    c.unbroken before d.0 d.1 (e ∙ ap (λ (l : List ℕ). before ++ l) d.2) (subst P d.2 z)) ]
 
 pub sentences_apart : SentencesAreApart
 sentences_apart = record { one_sentence = one_sentence; one_break = one_break; no_break = no_break; no_cut = no_cut; not_both = not_both }

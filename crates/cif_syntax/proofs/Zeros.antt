@@ -151,7 +151,7 @@ scale_gap front due n before (inl e) s b r =
     let l = letter_run First (Number Symbol) (codes "DS") false _ front refl refl (subst P e s) in
     let some = part_some n false _ l.rest l.more in
     let g = number_then Symbol (Number Symbol) due n false l.rest (inl refl) l.more (ends_of l.front l.rest some (blank_at front
-    (l.front ++ l.rest) l.parted b))
+        (l.front ++ l.rest) l.parted b))
     (sym (without First (Number Symbol) front l.rest l.run) ∙ r) in
     record { before = Symbol; slot = Times; next = refl; scale = refl; is = g }
 scale_gap front due n before (inr (times, e)) s b r =
@@ -271,7 +271,7 @@ earlier front rest n s ends = by z.word z.gap refl refl
     by (d ∷ ds) [] w g =
         let r : m.rest ≡ z.word = behind ∙ (ap (λ (l : List ℕ). z.word ++ l) g ∙ append-nil z.word) in
         absurd (no_digits_last z.word z.spelled.some z.spelled.digits (blank_at m.rest z.word r (ends_of ((s.word ++ s.gap) ++
-        (m.word ++ m.gap)) m.rest some_rest
+            (m.word ++ m.gap)) m.rest some_rest
         (blank_at front (((s.word ++ s.gap) ++ (m.word ++ m.gap)) ++ m.rest) parted ends))))
     by (d ∷ ds) (b ∷ bs) w g =
         let r : m.rest ≡ d ∷ (ds ++ b ∷ bs) = behind ∙ (ap (λ (l : List ℕ). l ++ z.gap) w ∙ ap (λ (l : List ℕ). (d ∷ ds) ++ l) g) in
@@ -306,7 +306,7 @@ NoneBefore front rest = (before : List ℕ) (byte : ℕ) (others : List ℕ) →
 
 front_leads_on : (front rest : List ℕ) (n : ℕ) (before : List CifPart) → (before ≡ []) ⊎ ((times : ℕ) × (before ≡ Unsigned times ∷ []))
     → SpellsParts (Letters (codes "DS") ∷ Unsigned n ∷ before) front → EndsBlank front → NoneBefore front rest → (due : Due) ×
-    (along First front ≡ Some due)
+        (along First front ≡ Some due)
 front_leads_on front rest n before (inl e) s ends none =
     let P : List CifPart → Type 0 = λ l. SpellsParts (Letters (codes "DS") ∷ Unsigned n ∷ l) front in
     let l = letter_run First (Number Symbol) (codes "DS") false _ front refl refl (subst P e s) in
@@ -323,11 +323,9 @@ front_leads_on front rest n before (inr (times, e)) s ends none =
           let l = letter_run First (Number Symbol) (codes "DS") false _ front refl refl (subst P e s) in
           let a = part_run Symbol (Number Symbol) (Unsigned n) true _ l.rest (inl refl) (refl, λ f z. absurd cc) l.more in
           let b = part_run Times a.next (Unsigned times) false _ a.rest (starts_next Symbol Times true a.next refl refl a.behind)
-          (refl, λ f. some) a.more in (
-            b.next,
-            without First (Number Symbol) front l.rest l.run ∙ (without (Number Symbol) a.next l.rest a.rest a.run
-                ∙ (without a.next b.next a.rest b.rest b.run ∙ ap (along b.next) b.more)),
-          ))
+              (refl, λ f. some) a.more in
+          (b.next, without First (Number Symbol) front l.rest l.run ∙ (without (Number Symbol) a.next l.rest a.rest a.run
+          ∙ (without a.next b.next a.rest b.rest b.run ∙ ap (along b.next) b.more))))
     ]
 
 -- behind the front before the first number of a scale that is 0, that number is due

@@ -8,8 +8,6 @@ mod network_texts;
 #[cfg(test)]
 mod parts;
 #[cfg(test)]
-mod probes;
-#[cfg(test)]
 mod recognisers;
 #[cfg(test)]
 mod runs;

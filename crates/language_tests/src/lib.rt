@@ -4,15 +4,11 @@
 #[cfg(test)]
 mod basics;
 #[cfg(test)]
-mod demos;
-#[cfg(test)]
 mod normal_forms;
 #[cfg(test)]
 mod printing;
 #[cfg(test)]
 mod refusals;
-#[cfg(test)]
-mod reports;
 #[cfg(test)]
 mod rows;
 #[cfg(test)]

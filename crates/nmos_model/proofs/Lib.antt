@@ -31,5 +31,4 @@ pub mod Roles
 pub mod ChannelDevices
 pub mod Circuits
 pub mod NearChannels
-pub mod AskedNets
 mod AlikeDrawings

@@ -9,11 +9,9 @@ pub mod NetMaps
 pub mod Channels
 pub mod Pads
 pub mod Devices
-pub mod Sites
 pub mod Networks
 pub mod Regions
 pub mod Refusals
 pub mod Alike
 pub mod Unsound
-pub mod Judging
 pub mod KnownPads

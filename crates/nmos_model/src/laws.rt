@@ -1,9 +1,6 @@
 //! What drawings and labels stand for, and how they are refused.
 
-ghost use Rattle.std.specs.Prelude.{List};
-ghost use Rattle.geom.specs.Squares.{BoxShape};
 ghost use Rattle.nmos_model.specs.Alike.{RefusedAlike, StandAlike};
-ghost use Rattle.nmos_model.specs.Judging.{AreJudged};
 ghost use Rattle.nmos_model.specs.Refusals.{NeverBoth, RefusedOnce, StandForOne};
 
 use crate::drawn::Drawn;
@@ -20,9 +17,4 @@ pub fn drawings_are_networks_or_refused<D: Drawn>()
 pub fn equal_drawings_are_alike<D: Drawn, E: Drawn>()
     ensures networks { (drawn : D) (other : E) → StandAlike (D.covers drawn) (E.covers other) }
     ensures refusals { (drawn : D) (other : E) → RefusedAlike (D.covers drawn) (E.covers other) }
-{}
-
-/// Boxes whose nets and channels are known stand for what these and their labels connect, and are refused for what is unsound in them.
-pub fn known_boxes_are_judged()
-    ensures { (boxes : List BoxShape) → AreJudged boxes }
 {}

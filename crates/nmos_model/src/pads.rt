@@ -5,20 +5,19 @@ ghost use Rattle.rx_text.specs.Role.{bears_name};
 ghost use Rattle.rx_text.specs.declared.pad_name.Role.{Role};
 ghost use Rattle.switch_net.specs.Validity.{AreDistinct, HasRole};
 ghost use Rattle.nmos_model.specs.Lists.{Matched};
-ghost use Rattle.nmos_model.specs.Pads.{AreNamed, ArePads, AreSound, IsNeeded, IsPadOf};
+ghost use Rattle.nmos_model.specs.Pads.{AreNamed, ArePads, AreSound, IsNeeded, IsPadOf, label_net};
 ghost use Rattle.nmos_model.specs.Unsound.{IsUnsoundBy};
 
 use crate::known_pads::KnownPads;
-use crate::network::SiteNets;
+use crate::network::NetMap;
 use crate::refusal::{ExtractCode, ExtractFault, ReadChipFault};
-use crate::sites::label_sites;
 use geom::Label;
 use rx_text::{PadName, Place};
 use std::alloc::Global;
 use switch_net::{Net, Pad, first_missing};
 
 /// The pads of the labels: a pad for each name, on the net of its first label.
-pub(crate) fn pads_of<N: SiteNets>(
+pub(crate) fn pads_of<N: NetMap>(
     alloc: Global,
     nets: &N,
     labels: &[Label],
@@ -48,7 +47,7 @@ pub(crate) fn pads_of<N: SiteNets>(
 }
 
 /// A pad for each label, in order, on the net of the label's square.
-fn pad_of_each<N: SiteNets>(
+fn pad_of_each<N: NetMap>(
     alloc: Global,
     nets: &N,
     labels: &[Label],
@@ -57,11 +56,9 @@ fn pad_of_each<N: SiteNets>(
     ensures named { OnOk result (AreNamed labels.now) }
     ensures fault { IfErr result (IsUnsoundBy (N.net nets.now) [] labels.now) }
 {
-    let sites = label_sites(alloc, labels)?;
-    let found = nets.nets_at(alloc, &sites)?;
     let mut pads = Vec::new(alloc);
-    for (at, label) in labels.iter().enumerate() {
-        match found[at] {
+    for label in labels {
+        match label_net(nets, label) {
             Some(net) => pads.push(Pad {
                 name: name_of(label),
                 net: Net(net),
@@ -70,6 +67,13 @@ fn pad_of_each<N: SiteNets>(
         }
     }
     Ok(pads)
+}
+
+/// The net of the label's square, if it conducts in the label's layer.
+fn label_net<N: NetMap>(nets: &N, label: &Label) -> Option<u32>
+    ensures { result ≡ label_net (N.net nets.now) label.now }
+{
+    nets.net_at(label.layer, label.x, label.y)
 }
 
 /// The name that the label bears, which has a name of its own exactly where it is that of an input or output.

@@ -1,6 +1,6 @@
 // How many terms the array of an automaton has.
 
-ghost use Rattle.std.specs.Prelude.{◌≡◌, ◌<◌, ◌≤◌, ◌*◌, ◌^◌, ℕ, false, if◌then◌else◌, Some, length, slice_get, count_by, sum_by, All};
+ghost use Rattle.std.specs.Prelude.{◌≡◌, ◌<◌, ◌≤◌, ◌*◌, ℕ, false, if◌then◌else◌, Some, length, slice_get, count_by, sum_by, All};
 ghost use Rattle.position_nfa.specs.Automaton.{AreBelow};
 ghost use Rattle.position_nfa.specs.Terms.{is_marked, occurs, symbol_count, term_count};
 
@@ -9,8 +9,7 @@ use crate::nfa::{FollowSet, Nfa};
 /// The number of terms of the automaton's programmable logic array: one for each state and each symbol on which it goes on, and
 /// one for each state in which an output is marked. Takes no memory.
 pub fn terms(nfa: &Nfa) -> u64
-    ensures count { result ≡ term_count nfa.now }
-    ensures few { result ≤ 2 ^ 21 }
+    ensures { result ≡ term_count nfa.now }
 {
     let symbols = nfa.symbols();
     let starts = symbol_count(symbols, nfa.first()) + symbol_count(symbols, nfa.scan_first());

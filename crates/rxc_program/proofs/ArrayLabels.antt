@@ -1,5 +1,5 @@
 -- The labels of an array can be written.
-use Rattle.std.proofs.Common.{inl, inr, ℕ, zero, suc, ◌+◌, ◌≤◌, List, [], ◌∷◌, map, get_or, refl, subst, arith, true, All, ◌≡◌}
+use Rattle.std.proofs.Common.{inl, inr, ℕ, zero, suc, ◌+◌, ◌≤◌, List, [], ◌∷◌, map, get_or, refl, subst, arith, ◌++◌, ◌<◌, true, All, length, ◌≡◌}
 use Rattle.std.specs.Prelude.{◌^◌}
 use Rattle.std.specs.List.{AllByRecursion}
 use Rattle.std.proofs.lemmas.Int.{ints}
@@ -14,7 +14,7 @@ use Rattle.position_nfa.specs.Registers.{array_counts, array_pads, line_pad, out
 use Rattle.position_nfa.specs.Automaton.{Automaton}
 use Rattle.rx_lang.specs.Tables.{Tables}
 use Rattle.rx_text.specs.Name.{is_name}
-use Rattle.rxc_program.proofs.PadNames.{numbered_pads, pads_before}
+use Rattle.std.specs.List.{range_with_len}
 
 -- no column of a net is beyond the last one
 column_within : (first : ℕ) (at : List ℕ) (cols net : ℕ) → AreWiresFrom first at cols → (first ≤ cols) × (get_or at net 0 ≤ cols)
@@ -46,6 +46,26 @@ module _ (at : List ℕ) (cols : ℕ) (wires : AreWiresFrom 2 at cols) (few : co
     y = record { from = omega (arith, ints); to = omega (arith, ints) };
   })
   labels_written (pad ∷ pads) named label (inr among) = labels_written pads named.1 label among
+
+module _ (pad : ℕ → Pad) where
+  numbered_pads : (names : List (List ℕ)) (first : ℕ) → ((i : ℕ) → i < length names → IsPadName (pad (first + i)).name)
+      → AllByRecursion IsPadName (map (λ pad. pad.name) (map pad (range_with_len first (length names))))
+  numbered_pads [] first named = tt
+  numbered_pads (name ∷ names) first named = (
+    subst (λ k. IsPadName (pad k).name) (let at : first + 0 ≡ first = omega arith in at) (named 0 (omega arith)),
+    numbered_pads names (first + 1)
+        (λ i below. subst (λ k. IsPadName (pad k).name) (let at : first + suc i ≡ (first + 1) + i = omega arith in at) (named (suc i) (omega (arith, below)))),
+  )
+
+  pads_before : (rest : List Pad) → AllByRecursion IsPadName (map (λ pad. pad.name) rest) → (names : List (List ℕ)) (first : ℕ)
+      → ((i : ℕ) → i < length names → IsPadName (pad (first + i)).name)
+      → AllByRecursion IsPadName (map (λ pad. pad.name) (map pad (range_with_len first (length names)) ++ rest))
+  pads_before rest ends [] first named = ends
+  pads_before rest ends (name ∷ names) first named = (
+    subst (λ k. IsPadName (pad k).name) (let at : first + 0 ≡ first = omega arith in at) (named 0 (omega arith)),
+    pads_before rest ends names (first + 1)
+        (λ i below. subst (λ k. IsPadName (pad k).name) (let at : first + suc i ≡ (first + 1) + i = omega arith in at) (named (suc i) (omega (arith, below)))),
+  )
 
 -- the pads of an array bear names of pads
 pub array_pads_named : (nfa : Automaton) (tables : Tables) → All (λ name. is_name name ≡ true) tables.lines → All (λ name. is_name name ≡ true) tables.outputs

@@ -18,7 +18,7 @@ use Rattle.rxc_program.specs.Simulating.{simulating}
 use Rattle.rxc_program.specs.declared.status.Code.{Code}
 use Rattle.rxc_program.specs.declared.status.Code.TheVariants.{I1}
 use Rattle.rxc_program.specs.declared.words.Command.{Command}
-use Rattle.rxc_program.specs.declared.words.Command.TheVariants.{Net, Pla, Tree, Sim}
+use Rattle.rxc_program.specs.declared.words.Command.TheVariants.{Net, Pla, Sim}
 
 -- each text is accepted or broken for one reason, and never both
 record TextsAreJudged (does : Behaviour) : Type 0 where
@@ -79,12 +79,10 @@ module _
     pub judged : (command : Command) → InputsAreJudged (behaviour command)
     judged Net = inputs_judged (behaviour Net) (compiling_judged _)
     judged Pla = inputs_judged (behaviour Pla) (compiling_judged _)
-    judged Tree = inputs_judged (behaviour Tree) (compiling_judged _)
     judged Sim = inputs_judged simulating simulating_judged
 
 -- every command reads its input
 pub is_reading : ((command : Command) → InputsAreJudged (behaviour command)) → (command : Command) → IsReading (behaviour command)
 is_reading judged Net = record { reads = refl; judged = judged Net; answered = λ text output status h. (h.1.spec, h.1.accepted) }
 is_reading judged Pla = record { reads = refl; judged = judged Pla; answered = λ text output status h. (h.1.spec, h.1.accepted) }
-is_reading judged Tree = record { reads = refl; judged = judged Tree; answered = λ text output status h. (h.1.spec, h.1.accepted) }
 is_reading judged Sim = record { reads = refl; judged = judged Sim; answered = λ text output status h. (h.1.vectors, h.1.circuit, h.1.drives) }

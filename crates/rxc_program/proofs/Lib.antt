@@ -1,6 +1,5 @@
 pub mod Pieces
 pub mod Names
-pub mod LastWord
 pub mod Endings
 pub mod DrivenJudged
 pub mod Judged
@@ -13,13 +12,5 @@ pub mod WrittenBoxes
 pub mod TileBoxes
 pub mod PlanSquares
 pub mod WrittenRows
-pub mod PadNames
 pub mod ArrayLabels
 pub mod ArrayFiles
-pub mod Members
-pub mod Levels
-pub mod BoxSides
-pub mod TreeCells
-pub mod TreeSquares
-pub mod TreeLabels
-pub mod TreeFiles

@@ -8,7 +8,7 @@ use Rattle.rxc_program.specs.Behaviour.{Behaviour, InputsAreJudged, IsAcceptedIn
 use Rattle.rxc_program.specs.Commands.{behaviour, compiler}
 use Rattle.rxc_program.specs.Compiling.{compiling}
 use Rattle.rxc_program.specs.Endings.{Change, CommandRun, WritesSuch}
-use Rattle.rxc_program.specs.Files.{FileKind, IsFileOf, network_file, pla_file, tree_file}
+use Rattle.rxc_program.specs.Files.{FileKind, IsFileOf, network_file, pla_file}
 use Rattle.rxc_program.specs.Promises.{CompilesAccepted, JudgesInput, ReportsWords, RunsCommand, ShowsLanguages}
 use Rattle.rxc_program.specs.Simulating.{simulating}
 use Rattle.rxc_program.specs.StatusText.{usage_word}
@@ -16,7 +16,7 @@ use Rattle.rxc_program.specs.Telling.{FilesShowTheirLanguages, TellsLanguages}
 use Rattle.rxc_program.specs.Words.{command_of, wrong_word}
 use Rattle.rxc_program.specs.declared.status.Status.{Status}
 use Rattle.rxc_program.specs.declared.words.Command.{Command}
-use Rattle.rxc_program.specs.declared.words.Command.TheVariants.{Net, Pla, Tree, Sim}
+use Rattle.rxc_program.specs.declared.words.Command.TheVariants.{Net, Pla, Sim}
 
 -- an input that is not too long and that the command accepts is accepted
 accepted_input : (does : Behaviour) (text : List ℕ) → length text ≤ most_input_bytes → does.Accepts text → IsAcceptedInput does text
@@ -42,8 +42,6 @@ module _ {Source Sink : Type 0} (words : List (List ℕ)) (source : Change Sourc
         writes_such (behaviour Net) source sink (is_reading judged Net) text told accepted Is such status run.ends
     by_kind pla_file run text told accepted Is such =
         writes_such (behaviour Pla) source sink (is_reading judged Pla) text told accepted Is such status run.ends
-    by_kind tree_file run text told accepted Is such =
-        writes_such (behaviour Tree) source sink (is_reading judged Tree) text told accepted Is such status run.ends
 
     pub compiles_accepted : ((text : List ℕ) (limit other : ℕ) (some others : Specification)
         → Accepted text limit some → Accepted text other others → some ≡ others) → CompilesAccepted words source sink status

@@ -13,7 +13,7 @@ use Rattle.pla_plan.specs.Filled.{FillsTiles}
 abbrev pub tiles_box : ℕ → ℕ → Rect
 tiles_box cols rows = record { x = pos 0; y = pos 0; width = 14 * cols; height = 14 * rows }
 
-pub tile_edge : (n : ℕ) → IsTileEdge (pos 0 +ℤ pos (14 * n))
+tile_edge : (n : ℕ) → IsTileEdge (pos 0 +ℤ pos (14 * n))
 tile_edge n = record { tiles = pos n; edge = omega (arith, ints) }
 
 -- an edge of tiles that lies before a point of the first tile is no later than its beginning

@@ -17,7 +17,7 @@ use Rattle.pla_plan.specs.RowChips.{CallsRow, CallRows, IsRowChip}
 use Rattle.rxc_program.proofs.PlanSquares.{LiesInTiles}
 
 -- boxes in runs are boxes
-pub run_box : (boxes : List BoxShape) → InRuns boxes → (b : BoxShape) → Among boxes b → IsBox b
+run_box : (boxes : List BoxShape) → InRuns boxes → (b : BoxShape) → Among boxes b → IsBox b
 run_box [] runs b among = absurd among
 run_box (first ∷ boxes) runs b (inl is) = subst IsBox is runs.0
 run_box (first ∷ boxes) runs b (inr among) = run_box boxes runs.2 b among

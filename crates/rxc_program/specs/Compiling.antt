@@ -1,4 +1,4 @@
--- Commands that compile a specification to a file: `net`, `pla` and `tree`.
+-- Commands that compile a specification to a file: `net` and `pla`.
 use Rattle.std.specs.Prelude.{◌≡◌, ℕ, true, List}
 use Rattle.rx_lang.specs.Specification.{Specification}
 use Rattle.rx_syntax.specs.Accepted.{Accepted}

@@ -1,7 +1,7 @@
 -- Which lists of words are commands, and at which word any other list goes wrong.
 use Rattle.std.specs.Prelude.{ℕ, suc, ◌+◌, ◌&&◌, Bool, true, false, List, [], ◌∷◌, Option, Some, None, map, fold, max, find, bytes_eq, codes, option_map, is_some, if◌then◌else◌}
 use Rattle.rxc_program.specs.declared.words.Command.{Command}
-use Rattle.rxc_program.specs.declared.words.Command.TheVariants.{Net, Pla, Tree, Sim}
+use Rattle.rxc_program.specs.declared.words.Command.TheVariants.{Net, Pla, Sim}
 
 -- a test for each word of a command, and the command that such words name
 pub record Usage : Type 0 where
@@ -12,7 +12,6 @@ abbrev pub commands : List Usage
 commands =
     record { tests = bytes_eq (codes "net") ∷ []; names = λ words. Net }
     ∷ record { tests = bytes_eq (codes "pla") ∷ []; names = λ words. Pla }
-    ∷ record { tests = bytes_eq (codes "tree") ∷ []; names = λ words. Tree }
     ∷ record { tests = bytes_eq (codes "sim") ∷ []; names = λ words. Sim }
     ∷ []
 

@@ -17,7 +17,6 @@ mod pla;
 mod sim;
 mod status;
 mod top;
-mod tree;
 mod words;
 
 pub use laws::{
@@ -35,8 +34,6 @@ mod rows;
 mod sim_rows;
 #[cfg(test)]
 mod tests;
-#[cfg(test)]
-mod tree_rows;
 
 use rx_io::{Sink, Source, StdSink, StdSource};
 use std::alloc::{AllocError, Global};

@@ -441,7 +441,6 @@ pub(crate) const ROWS: &[Row] = &[
 pub(crate) const FRONTS: &[(&[u8], Input, usize)] = &[
     (b"net", Input::Text(ONE), 2),
     (b"pla", Input::Text(ONE), 2),
-    (b"tree", Input::Text(ONE), 2),
     (b"sim", Input::Behind(b"1\nchip\n", INVERTER), 0),
 ];
 

@@ -1,9 +1,8 @@
 //! Runs of the program over memory: each row of the tables, and inputs that are cut or noise.
 use crate::pla_rows::PLA_ROWS;
-use crate::rows::{FAILING, FRONTS, Failing, Input, ONE, Output, ROWS, Row, status_of};
+use crate::rows::{FAILING, FRONTS, Failing, Input, Output, ROWS, Row, status_of};
 use crate::sim_rows::{REFUSED_SIM_ROWS, SIM_ROWS};
 use crate::status::Status;
-use crate::tree_rows::TREE_ROWS;
 use crate::words::RxWord;
 use crate::{exit_code, rxc};
 use rx_io::{MemSink, MemSource};
@@ -135,11 +134,6 @@ fn arrays_come_out(rt: HostRuntime) -> Result<(), Fail> {
     rows_come_out(&rt, rt.alloc(), PLA_ROWS)
 }
 
-#[test]
-fn layouts_of_trees_come_out(rt: HostRuntime) -> Result<(), Fail> {
-    rows_come_out(&rt, rt.alloc(), TREE_ROWS)
-}
-
 /// The run is refused, and writes nothing.
 fn is_refused(alloc: Global, word: &[u8], text: &[u8]) -> Result<bool, Fail> {
     let run = run_on(alloc, &[word], text, NO_FAULTS)?;
@@ -174,7 +168,6 @@ fn noise_is_refused(rt: HostRuntime) -> Result<(), Fail> {
         let text = noise(rt.alloc(), seed, seed % 64)?;
         assert!(rt; is_refused(rt.alloc(), b"net", &text)?, "{seed}");
         assert!(rt; is_refused(rt.alloc(), b"pla", &text)?, "{seed}");
-        assert!(rt; is_refused(rt.alloc(), b"tree", &text)?, "{seed}");
         assert!(rt; is_refused(rt.alloc(), b"sim", &text)?, "{seed}");
     }
     Ok(())
@@ -229,32 +222,6 @@ fn failures_are_reported(rt: HostRuntime) -> Result<(), Fail> {
         let text = bytes_of(rt.alloc(), &row.input)?;
         reads_fail(&rt, rt.alloc(), row, &text)?;
         writes_fail(&rt, rt.alloc(), row, &text)?;
-    }
-    Ok(())
-}
-
-/// A layout is not begun where a read fails, and is cut off where a write fails, of a hundred bytes at most.
-#[test]
-fn layouts_are_cut_off(rt: HostRuntime) -> Result<(), Fail> {
-    let alloc = rt.alloc();
-    for word in [b"pla".as_slice(), b"tree"] {
-        let whole = run_on(alloc, &[word], ONE, NO_FAULTS)?;
-        for read in 1..=2 {
-            let run = run_on(alloc, &[word], ONE, Faults { read, ..NO_FAULTS })?;
-            assert_eq!(rt; run.status, Status::ReadFault);
-            assert!(rt; run.out.is_empty());
-        }
-        for (write, taken) in [(1, 0), (2, 100), (9, 800)] {
-            let faults = Faults {
-                write,
-                most: 100,
-                ..NO_FAULTS
-            };
-            let run = run_on(alloc, &[word], ONE, faults)?;
-            assert_eq!(rt; run.status, Status::WriteFault);
-            assert!(rt; whole.out.starts_with(run.out.as_slice()));
-            assert_eq!(rt; run.out.len(), taken);
-        }
     }
     Ok(())
 }

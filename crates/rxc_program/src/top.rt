@@ -12,7 +12,6 @@ use crate::net::net;
 use crate::pla::pla;
 use crate::sim::sim;
 use crate::status::Status;
-use crate::tree::tree;
 use crate::words::{Command, RxWord, named_command};
 use rx_io::{Sink, Source};
 use rx_syntax::laws::texts_are_accepted_or_refused;
@@ -68,7 +67,6 @@ fn serve<S: Source, O: Sink>(alloc: Global, command: Command, src: &mut S, out: 
     match command {
         Command::Net => net(alloc, src, out),
         Command::Pla => pla(alloc, src, out),
-        Command::Tree => tree(alloc, src, out),
         Command::Sim => sim(alloc, src, out),
     }
 }

@@ -43,8 +43,6 @@ pub enum Command {
     Net,
     /// A specification in, the CIF text of its programmable logic array out.
     Pla,
-    /// A specification in, the CIF text of its tree-shaped layout out.
-    Tree,
     /// A trace and the text of a network in, the levels of the network's outputs after each clock out.
     Sim,
 }
@@ -57,7 +55,6 @@ pub(crate) fn named_command(words: &[RxWord]) -> Result<Command, u32>
     match words {
         [first, rest @ ..] if first.is(b"net") => alone(Command::Net, rest),
         [first, rest @ ..] if first.is(b"pla") => alone(Command::Pla, rest),
-        [first, rest @ ..] if first.is(b"tree") => alone(Command::Tree, rest),
         [first, rest @ ..] if first.is(b"sim") => alone(Command::Sim, rest),
         _ => Err(1),
     }

@@ -27,7 +27,7 @@ pub and_split : (a b : Bool) → IsTrue (a && b) → IsTrue a × IsTrue b
 and_split true b h = (refl, h)
 and_split false b h = cc
 
-pub equal_to : (y z : ℕ) → IsTrue (y == z) → y ≡ z
+equal_to : (y z : ℕ) → IsTrue (y == z) → y ≡ z
 equal_to y z h = grind arith
 
 to_equal : (y z : ℕ) → y ≡ z → IsTrue (y == z)

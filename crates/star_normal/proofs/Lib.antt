@@ -20,4 +20,3 @@ pub mod Weights
 pub mod Stated
 pub mod Specified
 pub mod SymbolBounds
-pub mod MarkBounds

@@ -1,5 +1,5 @@
 -- Full binary trees whose nodes carry loops, the empty word and marks: which words they spell, and which they mark.
-use Rattle.std.specs.Prelude.{◌≡◌, ◌≢◌, ◌⊎◌, ℕ, ◌<◌, Bool, true, false, IsTrue, List, [], ◌∷◌, ◌++◌}
+use Rattle.std.specs.Prelude.{◌≡◌, ◌≢◌, ◌⊎◌, ℕ, Bool, true, false, IsTrue, List, [], ◌∷◌, ◌++◌}
 use Rattle.rx_lang.specs.Meaning.{Cut, Many, EndsIn}
 
 -- Of a node: whether its base turns several times, whether it spells the empty word, whether its words may begin at any
@@ -28,17 +28,6 @@ abbrev pub leaves : FlaggedTree → List ℕ
 leaves (leaf f s) = s ∷ []
 leaves (seq f l r) = leaves l ++ leaves r
 leaves (alt f l r) = leaves l ++ leaves r
-
--- The node marks only outputs with numbers below this one.
-pub record MarksBelow (n : ℕ) (f : Flags) : Type 0 where
-  pub marks : (y : ℕ) → IsTrue (f.marks y) → y < n
-  pub eps_marks : (y : ℕ) → IsTrue (f.eps_marks y) → y < n
-
--- So do all nodes of the tree.
-abbrev pub AllMarkBelow : ℕ → FlaggedTree → Type 0
-AllMarkBelow n (leaf f s) = MarksBelow n f
-AllMarkBelow n (seq f l r) = MarksBelow n f × AllMarkBelow n l × AllMarkBelow n r
-AllMarkBelow n (alt f l r) = MarksBelow n f × AllMarkBelow n l × AllMarkBelow n r
 
 module _ {X : Type 0} where
   -- words of the base one after another, at least one, or one alone where the node does not loop

@@ -4,7 +4,7 @@ ghost use Rattle.std.specs.Prelude.{◌≡◌, ℕ, ◌<◌, ◌≤◌, ◌+◌,
 ghost use Rattle.rx_lang.specs.Copies.{IsItself, all_numbered, copied, occurrences};
 ghost use Rattle.rx_lang.specs.Tables.{specification};
 ghost use Rattle.rx_lang.specs.Specification.{MatchesSymbol};
-ghost use Rattle.star_normal.specs.Trees.{AllMarkBelow, leaves};
+ghost use Rattle.star_normal.specs.Trees.{leaves};
 ghost use Rattle.star_normal.specs.Normal.{normal_form};
 ghost use Rattle.star_normal.specs.Shapes.{tree_numbered, rest_part, scan_part};
 ghost use Rattle.star_normal.specs.Tables.{whole, is_leaf};
@@ -38,7 +38,6 @@ pub fn normalize(alloc: Global, spec: &Spec) -> Result<Tree, NoMemory>
         (scan_part (tree_numbered 0 (whole tree)))) }
     ensures leaves { IfOk result (λ tree. leaves (whole tree) ≡ flat_map occurrences ((specification spec.now).statements ++ (specification spec.now).scans)) }
     ensures symbols { IfOk result (λ tree. All (λ s. s < length spec.now.symbols) (leaves (whole tree))) }
-    ensures marks { IfOk result (λ tree. AllMarkBelow (length spec.now.outputs) (whole tree)) }
     ensures nodes { IfOk result (λ tree. length tree.nodes + 1 ≡ 2 * count_by (λ node. is_leaf node.kind) tree.nodes) }
 {
     copies_mean_their_repeats();

@@ -15,17 +15,3 @@ pub mod CellsNetwork
 pub mod DrawnCells
 pub mod DrawnNetworks
 pub mod Recognised
-pub mod BlockRows
-pub mod Covering
-pub mod SameBlocks
-pub mod CalledPlaces
-pub mod Numbering
-pub mod RowsOfPlaces
-pub mod SharedKinds
-pub mod OnSheet
-pub mod Made
-pub mod Within
-pub mod Adding
-pub mod LabelPlaces
-pub mod Answered
-pub mod Signed

@@ -15,8 +15,4 @@ mod AllNodes
 mod Permuted
 mod AllEdges
 mod TreeEdges
-mod QuarterNumbers
-mod QuarterMoves
-mod QuarterSheets
-mod QuarterSquares
 mod Whole

@@ -20,7 +20,7 @@ some_leaves (leaf f s) = omega arith
 some_leaves (seq f l r) = omega (arith, some_leaves l, length-append (leaves l) (leaves r))
 some_leaves (alt f l r) = omega (arith, some_leaves l, length-append (leaves l) (leaves r))
 
-pub same_some : (a b : ℕ) (o : Option ℕ) → o ≡ Some a → o ≡ Some b → a ≡ b
+same_some : (a b : ℕ) (o : Option ℕ) → o ≡ Some a → o ≡ Some b → a ≡ b
 same_some a b o e f = cc
 
 module _ (table : TreeTable) (laws : OrderLaws table) (numbers : (i : ℕ) → i < length table.nodes + 1 → number_of (light_first table) (slice_index (light_first table) i) ≡ Some i)

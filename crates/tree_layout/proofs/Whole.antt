@@ -1,6 +1,5 @@
 -- The entries of a tree are ordered, and its layout is a square for them.
-use Rattle.std.proofs.Common.{◌≡◌, ◌∙◌, ◌⊎◌, ℕ, ◌+◌, ◌*◌, ◌^◌, ◌<◌, ◌≤◌, Bool, not, ◌==◌, Some, length, map, slice_index, count_by, sum_by}
-use Rattle.std.proofs.Common.{Result, Ok, Err, IfOk, IsPermutation, sym, subst, ap, inl, inr, arith}
+use Rattle.std.proofs.Common.{◌≡◌, ◌∙◌, ◌⊎◌, ℕ, ◌+◌, ◌*◌, ◌^◌, ◌<◌, ◌≤◌, Bool, not, ◌==◌, Some, length, map, slice_index, count_by, sum_by, Result, Ok, Err, IfOk, IsPermutation, sym, subst, ap, inl, inr, arith}
 use Rattle.std.specs.List.{range_with_len}
 use Rattle.std.proofs.lemmas.Bool.{cases_lt}
 use Rattle.std.proofs.Math.Nat.{pow-le-pow_right}
@@ -9,21 +8,19 @@ use Rattle.star_normal.specs.Tables.{TreeTable}
 use Rattle.light_order.specs.Order.{child_of, frame, light_first}
 use Rattle.light_order.specs.Crossings.{number_of, crossings, light_crossings, tree_edges}
 use Rattle.block_grid.specs.Sheets.{Sheet}
-use Rattle.channel_route.specs.Drawing.{ends_of, name_of, place_in}
+use Rattle.channel_route.specs.Drawing.{ends_of, name_of}
 use Rattle.tree_layout.specs.declared.links.Link.{Link}
 use Rattle.tree_layout.specs.Numbered.{ends_in_tree, entries_of}
 use Rattle.tree_layout.specs.Squares.{links_out, square}
 use Rattle.tree_layout.specs.Drawing.{IsOrdered}
-use Rattle.tree_layout.specs.Quarters.{KeepQuarters}
 use Rattle.tree_layout.proofs.Recurrence.{most_is}
 use Rattle.tree_layout.proofs.Numbering.{OrderLaws}
-use Rattle.tree_layout.proofs.Ordered.{long, same_some, once, behind, parents}
+use Rattle.tree_layout.proofs.Ordered.{long, once, behind, parents}
 use Rattle.tree_layout.proofs.Counting.{few_cross, light_cross, none_out}
 use Rattle.tree_layout.proofs.Sides.{DrawingLaws, few_rows, few_cols}
 use Rattle.tree_layout.proofs.Joined.{square_names, square_ends}
 use Rattle.tree_layout.proofs.TreeEdges.{edges_once}
 use Rattle.tree_layout.proofs.AllNodes.{all_names}
-use Rattle.tree_layout.proofs.QuarterSquares.{tree_keeps}
 
 -- what is known of the order
 pub record TreeLaws (table : TreeTable) : Type 0 where
@@ -69,16 +66,6 @@ module _ (table : TreeTable) (l : TreeLaws table) where
     nodes (Ok b) level p e = ap (λ (s : Sheet). map name_of s.nodes) e ∙ square_names d (entries_of table) level 0
         ∙ all_names table (4 ^ level) (l.order.once (frame table) (omega arith)) (omega (arith, l.order.size, p.enough))
     nodes (Err x) level p e = e
-
-    order_once : (i k : ℕ) → i < length table.nodes + 1 → k < length table.nodes + 1
-        → slice_index (light_first table) i ≡ slice_index (light_first table) k → i ≡ k
-    order_once i k a b e =
-        same_some i k (number_of (light_first table) (slice_index (light_first table) i)) (l.numbers i a) (ap (number_of (light_first table)) e ∙ l.numbers k b)
-
-    pub quarters : {E : Type 0} (r : Result Sheet E) (level : ℕ) → IsLevel (length table.nodes + 1) level → IfOk r (λ b. b ≡ square (entries_of table) level 0)
-        → IfOk r (λ b. KeepQuarters (λ i. place_in b (slice_index (light_first table) i)) (length table.nodes + 1))
-    quarters (Ok b) level p e = tree_keeps table l.order order_once b level (long table l.order l.numbers l.one) p e (nodes {E = ℕ} (Ok b) level p e)
-    quarters (Err x) level p e = e
 
     pub edges : {E : Type 0} (r : Result Sheet E) (level : ℕ) → IsLevel (length table.nodes + 1) level → IfOk r (λ b. b ≡ square (entries_of table) level 0)
         → IfOk r (λ b. IsPermutation (map ends_in_tree (tree_edges table)) (map ends_of b.edges))

@@ -2,4 +2,3 @@
 pub mod Numbered
 pub mod Squares
 pub mod Drawing
-pub mod Quarters

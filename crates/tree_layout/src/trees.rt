@@ -1,12 +1,11 @@
 // The layout of a tree.
 
-ghost use Rattle.std.specs.Prelude.{ℕ, ◌≡◌, ◌+◌, ◌≤◌, ◌==◌, IfOk, IsPermutation, length, map, slice_index};
+ghost use Rattle.std.specs.Prelude.{ℕ, ◌≡◌, ◌+◌, ◌≤◌, ◌==◌, IfOk, IsPermutation, length, map};
 ghost use Rattle.rx_lang.specs.Squares.{IsLevel, side_bound};
 ghost use Rattle.light_order.specs.Crossings.{tree_edges};
 ghost use Rattle.light_order.specs.Order.{frame, light_first};
-ghost use Rattle.channel_route.specs.Drawing.{ends_of, name_of, place_in};
+ghost use Rattle.channel_route.specs.Drawing.{ends_of, name_of};
 ghost use Rattle.tree_layout.specs.Numbered.{ends_in_tree, entries_of};
-ghost use Rattle.tree_layout.specs.Quarters.{KeepQuarters};
 ghost use Rattle.tree_layout.specs.Squares.{square};
 
 use crate::levels::level_of;
@@ -22,8 +21,7 @@ use star_normal::Tree;
 use std::alloc::Global;
 
 /// The nodes of the tree and the frame, each once, in squares of four squares, with each edge of the tree drawn once, in its
-/// role. No other node stands there, and no other edge is drawn. The places of the nodes keep the quarters of their numbers in the
-/// light-first order.
+/// role. No other node stands there, and no other edge is drawn.
 ///
 /// # Errors
 ///
@@ -32,8 +30,6 @@ pub fn layout(alloc: Global, tree: &Tree) -> Result<Blocks, NoMemory>
     ensures squares { IfOk result (λ blocks. (k : ℕ) → IsLevel (length tree.now.nodes + 1) k → blocks ≡ square (entries_of tree.now) k 0) }
     ensures nodes { IfOk result (λ blocks. map name_of blocks.nodes ≡ map (λ v. (v, v == frame tree.now)) (light_first tree.now)) }
     ensures edges { IfOk result (λ blocks. IsPermutation (map ends_in_tree (tree_edges tree.now)) (map ends_of blocks.edges)) }
-    ensures quarters { IfOk result (λ blocks. KeepQuarters (λ i. place_in blocks (slice_index (light_first tree.now) i))
-        (length tree.now.nodes + 1)) }
     ensures rows { IfOk result (λ blocks. (k : ℕ) → IsLevel (length tree.now.nodes + 1) k → blocks.rows ≤ side_bound k) }
     ensures cols { IfOk result (λ blocks. (k : ℕ) → IsLevel (length tree.now.nodes + 1) k → blocks.cols ≤ side_bound k) }
 {

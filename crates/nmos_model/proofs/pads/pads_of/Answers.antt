@@ -12,14 +12,14 @@ pub bounds-labels-at : goal.bounds-labels-at
 bounds-labels-at g c =
     omega (
       arith,
-      matched_length (IsPadOf (g.N.SiteNets.net c.args.nets.now)) c.args.labels.now c.in_ok-each.each.items c.in_ok-each.ensures.pads,
+      matched_length (IsPadOf (g.N.NetMap.net c.args.nets.now)) c.args.labels.now c.in_ok-each.each.items c.in_ok-each.ensures.pads,
       c.deref-pad-items.ensures.len,
       c.loop-at-test.true,
     )
 
 pub loop-at-preserved : goal.loop-at-preserved
 loop-at-preserved g c =
-    let net = g.N.SiteNets.net c.args.nets.now in
+    let net = g.N.NetMap.net c.args.nets.now in
     let labels = c.args.labels.now in
     let each = c.deref-pad-items.result.now in
     let at = c.loop-at.at in
@@ -34,7 +34,7 @@ loop-at-preserved g c =
 
 pub returns-then-not-branch-clause-fault : goal.returns-then-not-branch-clause-fault
 returns-then-not-branch-clause-fault g c =
-    let net = g.N.SiteNets.net c.args.nets.now in
+    let net = g.N.NetMap.net c.args.nets.now in
     let labels = c.args.labels.now in
     let each = c.deref-pad-items.result.now in
     let label = c.index-labels-at.result in
@@ -47,7 +47,7 @@ returns-then-not-branch-clause-fault g c =
 
 pub returns-in-None : goal.returns-in-None
 returns-in-None g c =
-    let net = g.N.SiteNets.net c.args.nets.now in
+    let net = g.N.NetMap.net c.args.nets.now in
     let labels = c.args.labels.now in
     let each = c.in_ok-each.each.items in
     let pads = c.into_pads-pads.result.items in
@@ -65,7 +65,7 @@ returns-in-None g c =
 
 pub returns-clause-fault : goal.returns-clause-fault
 returns-clause-fault g c =
-    let net = g.N.SiteNets.net c.args.nets.now in
+    let net = g.N.NetMap.net c.args.nets.now in
     let labels = c.args.labels.now in
     let each = c.in_ok-each.each.items in
     let pads = c.into_pads-pads.result.items in

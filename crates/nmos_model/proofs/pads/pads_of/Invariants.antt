@@ -6,5 +6,5 @@ use Rattle.nmos_model.proofs.pads.pads_of.Given as goal
 abbrev pub invariant-loop-at : goal.invariant-loop-at
 invariant-loop-at g l = record {
   known : IsKnown l.known;
-  named : AreNamed (g.N.SiteNets.net l.nets) (take l.at l.labels) l.known.pads.items;
+  named : AreNamed (g.N.NetMap.net l.nets) (take l.at l.labels) l.known.pads.items;
 }

@@ -2,8 +2,8 @@ use Rattle.std.proofs.Common.{refl}
 use Rattle.position_nfa.proofs.Counted.{terms_sum}
 use Rattle.position_nfa.proofs.term_count.terms.Goals as goal
 
-pub returns-clause-count : goal.returns-clause-count
-returns-clause-count c =
+pub returns : goal.returns
+returns c =
     let s = c.symbols-symbols.ensures.symbols in
     terms_sum c.args.nfa.now c.symbols-symbols.ensures.automaton
     c.symbol_count.result c.symbol_count-2.result c.follow_terms.result c.mark_terms.result c.mark_term.result

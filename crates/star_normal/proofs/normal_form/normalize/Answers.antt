@@ -9,9 +9,8 @@ use Rattle.star_normal.specs.Normal.{normal_form}
 use Rattle.star_normal.specs.Outlines.{copied_trees}
 use Rattle.star_normal.specs.Shapes.{rest_part, scan_part, tree_numbered}
 use Rattle.star_normal.specs.Tables.{whole}
-use Rattle.star_normal.specs.Trees.{FlaggedTree, AllMarkBelow, leaves}
+use Rattle.star_normal.specs.Trees.{FlaggedTree, leaves}
 use Rattle.star_normal.proofs.Copied.{no_repeats}
-use Rattle.star_normal.proofs.MarkBounds.{marks_below}
 use Rattle.star_normal.proofs.Specified.{are_fit, some_roots, some_copied, exprs_within, scans_within, resized, form_moved, bounded_statements, bounded_scans, same_occurrences, same_languages, tree_leaves, tree_normal}
 use Rattle.star_normal.proofs.SymbolBounds.{symbols_below}
 use Rattle.star_normal.proofs.Unions.{form_letters, form_scan_letters}
@@ -81,10 +80,3 @@ returns-clause-symbols c =
     IfOk-weaker c.assemble.result (λ tree. leaves (whole tree) ≡ flat_map occurrences ((specification c.args.spec.now).statements ++ (specification c.args.spec.now).scans))
     (λ tree. All (λ s. s < length c.args.spec.now.symbols) (leaves (whole tree)))
     (λ tree e. rw e (symbols_below c.args.spec.now c.nodes-nodes.ensures.specification)) (returns-clause-leaves c)
-
-pub returns-clause-marks : goal.returns-clause-marks
-returns-clause-marks c =
-    IfOk-weaker c.assemble.result
-    (λ tree. whole tree ≡ normal_form (map copied (specification c.args.spec.now).statements) (map copied (specification c.args.spec.now).scans))
-    (λ tree. AllMarkBelow (length c.args.spec.now.outputs) (whole tree))
-    (λ tree e. rw e (marks_below c.args.spec.now c.nodes-nodes.ensures.specification)) (returns-clause-normal c)

@@ -4,7 +4,7 @@ use Rattle.tree_layout.specs.Drawing.{IsOrdered}
 use Rattle.tree_layout.specs.Numbered.{entries_of}
 use Rattle.tree_layout.specs.Squares.{square}
 use Rattle.tree_layout.proofs.Sides.{DrawingLaws}
-use Rattle.tree_layout.proofs.Whole.{ordered, squares, nodes, edges, quarters, rows, cols, small_square, TreeLaws}
+use Rattle.tree_layout.proofs.Whole.{ordered, squares, nodes, edges, rows, cols, small_square, TreeLaws}
 use Rattle.tree_layout.proofs.trees.layout.Goals as goal
 
 known : (c : goal.After-deref) → TreeLaws c.args.tree.now
@@ -81,6 +81,3 @@ returns-clause-rows c = rows c.args.tree.now (known_after c) (drawing c) c.squar
 
 pub returns-clause-cols : goal.returns-clause-cols
 returns-clause-cols c = cols c.args.tree.now (known_after c) (drawing c) c.square.result c.level_of-level.result (level c) (is_square c)
-
-pub returns-clause-quarters : goal.returns-clause-quarters
-returns-clause-quarters c = quarters c.args.tree.now (known_after c) (drawing c) c.square.result c.level_of-level.result (level c) (is_square c)

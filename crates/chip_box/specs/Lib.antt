@@ -1,2 +1,0 @@
--- Definitions that public contracts cite:
-pub mod Extents

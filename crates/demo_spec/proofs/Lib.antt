@@ -1,4 +1,0 @@
-pub mod Growing
-pub mod Makings
-pub mod Whole
-pub mod PrintedDemos

@@ -1,2 +1,0 @@
-pub mod AreaBounds
-pub mod LeafTotals

@@ -1,3 +1,0 @@
--- Definitions that public contracts cite:
-pub mod Sizes
-pub mod Reports

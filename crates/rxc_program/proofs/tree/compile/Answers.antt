@@ -1,8 +1,0 @@
-use Rattle.rxc_program.proofs.tree.compile.Goals as goal
-
--- src/tree.rt
-pub layout_chip-requires-clause-lines : goal.layout_chip-requires-clause-lines
-layout_chip-requires-clause-lines c = c.accepted_names_are_names.ensures.lines c.args.text.now _ _ c.in_ok-spec.ensures.accepted
-
-pub layout_chip-requires-clause-outputs : goal.layout_chip-requires-clause-outputs
-layout_chip-requires-clause-outputs c = c.accepted_names_are_names.ensures.outputs c.args.text.now _ _ c.in_ok-spec.ensures.accepted

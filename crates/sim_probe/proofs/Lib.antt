@@ -1,6 +1,0 @@
-pub mod Behind
-pub mod Keys
-pub mod Tallies
-pub mod Lasts
-pub mod Ends
-pub mod Dumps
