@@ -1,16 +1,17 @@
 -- The points of wires, one after another.
-use Rattle.std.proofs.Common.{◌≡◌, ◌≢◌, inl, inr, ℕ, zero, suc, ◌^◌, ◌≤◌, ◌<◌, ℤ, pos, ◌-ℤ◌, ◌+ℤ◌, ◌*ℤ◌, ◌<ℤ◌, List, [], ◌∷◌, ◌++◌, map, flat_map, refl, sym, ◌∙◌, ap, subst, append_assoc, arith}
+use Rattle.std.proofs.Common.{◌≡◌, ◌≢◌, inl, inr, ℕ, zero, suc, ◌<◌, true, ℤ, pos, ◌-ℤ◌, ◌+ℤ◌, ◌<ℤ◌, List, [], ◌∷◌, ◌++◌, length, map, flat_map, codes, refl, sym, ◌∙◌, ap, subst, append_assoc, arith}
 use Rattle.std.specs.Int.{int_min, int_max}
 use Rattle.std.proofs.lemmas.Int.{ints, clamps}
 use Rattle.std.proofs.lemmas.List.{append-nil}
 use Rattle.geom.specs.declared.layer.Layer.{Layer}
 use Rattle.geom.specs.declared.point.Point.{Point}
 use Rattle.geom.specs.Squares.{BoxShape}
-use Rattle.geom.specs.CifCommands.{CifScale, CifPart, DrawsWire, point_parts, command_parts}
+use Rattle.geom.specs.CifCommands.{CifScale, CifPart, Letters, Unsigned, DrawsWire, is_number_part, point_parts, command_parts}
 use Rattle.geom.specs.CifCodes.{SomeIs, IsTooGreat, part_numbers, command_distances, outline_distances}
 use Rattle.geom.specs.CifShapes.{Segment, Outline, segments_from, segment_outline, wire_outlines, outlined_box}
 use Rattle.geom.specs.CifDrawings.{doubled, scaled}
-use Rattle.cif_values.specs.Parts.{PartsAt}
+use Rattle.cif_values.specs.Parts.{PartsAt, number_in}
+use Rattle.cif_values.specs.Numbers.{StandsFor}
 use Rattle.cif_codes.specs.declared.scale.Scale.{Scale}
 use Rattle.cif_codes.specs.declared.bends.Bend.{Bend}
 use Rattle.cif_codes.specs.declared.edges.Edges.{Edges}
@@ -19,6 +20,8 @@ use Rattle.cif_codes.specs.Bends.{BendAt, EdgesStand, AreNearEdges}
 use Rattle.cif_figures.specs.Rectangles.{outline_of, IsDrawn}
 use Rattle.cif_figures.specs.Wires.{IsClearWire}
 use Rattle.cif_figures.proofs.Clear.{IsClear, clear_front, clear_behind, drawn_edge}
+use Rattle.cif_figures.proofs.PolygonPoints.{point_numbers}
+use Rattle.cif_figures.proofs.Words.{word, number_word}
 
 -- the segment from one point to another
 abbrev pub way : Point → Point → Segment
@@ -27,10 +30,6 @@ way p q = record { start = doubled p; stop = doubled q }
 -- the rectangles from a point to the next, and so on
 abbrev pub outlines_from : ℕ → Point → List Point → List Outline
 outlines_from w p ps = map (segment_outline w) (segments_from (doubled p) (map doubled ps))
-
--- the numbers of points
-abbrev pub point_numbers : List Point → List ℤ
-point_numbers ps = flat_map part_numbers (flat_map point_parts ps)
 
 -- the width and the numbers of two points
 abbrev pub way_numbers : ℕ → Point → Point → List ℤ
@@ -107,6 +106,40 @@ wire_begun text scale layer first w points from next start h p law =
     by (q ∷ rest) n c p =
         let k = law h.stop q (flat_map point_parts rest) p in record { point = q; rest = rest; here = k.0; parts = k.1; clear = c; is = refl }
 
+-- what is read of a letter at the first place, and of a width behind it
+abbrev pub LetterLaw : List ℕ → (first from : ℕ) → Type 0
+LetterLaw text first from =
+    (stop : ℕ) (letters : List ℕ) (parts : List CifPart) → length letters ≡ 1 → PartsAt text first stop (Letters letters ∷ parts) → PartsAt text from stop parts
+
+abbrev pub WidthLaw : List ℕ → (m from behind : ℕ) → ℤ → Type 0
+WidthLaw text m from behind width =
+    (stop : ℕ) (part : CifPart) (parts : List CifPart) → is_number_part part ≡ true → PartsAt text from stop (part ∷ parts)
+    → StandsFor m (number_in part) width × PartsAt text behind stop parts
+
+-- the width and the first point are read
+pub record WireRead (text : List ℕ) (scale : Scale) (layer : Layer) (w stop next : ℕ) (width : ℤ) (start : Bend) (all : List BoxShape) : Type 0 where
+  pub some : 0 < w
+  pub stands : StandsFor (grid_of scale) (pos w) (word width)
+  pub begun : WireBegun text scale layer w stop next start all
+
+pub wire_read : (text : List ℕ) (scale : Scale) (layer : Layer) (first w : ℕ) (points : List Point) (h : IsClearWire text first (ratio scale) w points)
+    (m letter from next : ℕ) (width : ℤ) (start : Bend) → m ≡ grid_of scale → LetterLaw text first letter → WidthLaw text m letter from width
+    → BendLaw text scale from next start → WireRead text scale layer w h.stop next width start (wire_boxes scale layer w points)
+wire_read text scale layer first w points h m letter from next width start e ll wl bl =
+    let a = ll h.stop (codes "W") (Unsigned w ∷ flat_map point_parts points) refl h.parts in
+    let b = wl h.stop (Unsigned w) (flat_map point_parts points) refl a in
+    let P : ℕ → Type 0 = λ n. StandsFor n (pos w) width in
+    let Q : ℤ → Type 0 = λ v. StandsFor (grid_of scale) (pos w) v in
+    record {
+      some = positive w (λ z. h.even (inl z));
+      stands = subst Q (sym (number_word width b.0.near)) (subst P e b.0);
+      begun = wire_begun text scale layer first w points from next start h b.1 bl;
+    }
+  where
+    positive : (n : ℕ) → (n ≡ 0 → ⊥) → 0 < n
+    positive zero h = absurd (h refl)
+    positive (suc n) h = omega arith
+
 -- the only point is a segment to itself
 pub record WireSingle (scale : Scale) (layer : Layer) (w : ℕ) (point : Point) (all : List BoxShape) : Type 0 where
   pub clear : IsClear (ratio scale) (way_numbers w point point) (outline_distances (segment_outline w (way point point)))
@@ -127,6 +160,30 @@ wire_single text scale layer w stop next start all b e = by b.rest b.clear b.is 
         → all ≡ wire_boxes scale layer w (b.point ∷ rest) → rest ≡ [] → WireSingle scale layer w b.point all
     by [] c i e = record { clear = record { few = λ g. c.few (twice g); on_grid = c.on_grid; not_far = c.not_far }; is = i }
     by (q ∷ rest) c i e = absurd cc
+
+-- what is found of a segment between two points that are read
+abbrev pub EdgesLaw : List ℕ → ℤ → (last bend : Bend) → Edges → Type 0
+EdgesLaw text width last bend edges =
+    (m w : ℕ) (p q : Point) → StandsFor m (pos w) width → BendAt text m p last → BendAt text m q bend
+    → EdgesStand m (way_numbers w p q) (segment_outline w (way p q)) edges
+
+pub single_found : (text : List ℕ) (scale : Scale) (layer : Layer) (w stop next : ℕ) (width : ℤ) (start : Bend) (all : List BoxShape) (edges : Edges)
+    → (r : WireRead text scale layer w stop next width start all) → r.begun.rest ≡ [] → EdgesLaw text (word width) start start edges → AreNearEdges edges
+    → WayFound scale layer w r.begun.point r.begun.point edges
+single_found text scale layer w stop next width start all edges r e law near =
+    let b = r.begun in
+    let s = wire_single text scale layer w stop next start all b e in
+    way_found scale layer w b.point b.point edges r.some s.clear (law (grid_of scale) w b.point b.point r.stands b.here b.here) near
+
+pub single_is : (text : List ℕ) (scale : Scale) (layer : Layer) (w stop next : ℕ) (width : ℤ) (start : Bend) (all found pushed : List BoxShape) (edges : Edges) (b : BoxShape)
+    → (r : WireRead text scale layer w stop next width start all) → r.begun.rest ≡ [] → EdgesLaw text (word width) start start edges → AreNearEdges edges
+    → b ≡ box_of scale layer (outline_of edges) → found ≡ [] → pushed ≡ found ++ b ∷ [] → pushed ≡ all
+single_is text scale layer w stop next width start all found pushed edges b r e law near f g h =
+    let s = wire_single text scale layer w stop next start all r.begun e in
+    let k = single_found text scale layer w stop next width start all edges r e law near in
+    h
+    ∙ (ap (λ (l : List BoxShape). l ++ b ∷ []) g
+    ∙ (ap (λ (x : BoxShape). x ∷ []) (f ∙ k.box) ∙ sym s.is))
 
 -- ---- the loop
 
@@ -189,21 +246,43 @@ wire_next text scale layer w stop all from last found u n = by u.rest u.parts u.
           join = j;
         }
 
+-- the next segment, whose edges are found
+pub record WireStep (text : List ℕ) (scale : Scale) (layer : Layer) (w stop : ℕ) (all : List BoxShape) (from next : ℕ) (last bend : Bend) (found : List BoxShape)
+  (edges : Edges) : Type 0 where
+  pub segment : WireNext text scale layer w stop all from last found
+  pub here : BendAt text (grid_of scale) segment.point bend
+  pub parts : PartsAt text next stop (flat_map point_parts segment.rest)
+  pub way : WayFound scale layer w segment.start segment.point edges
+
+pub wire_step : (text : List ℕ) (scale : Scale) (layer : Layer) (w stop : ℕ) (all : List BoxShape) (from next : ℕ) (width : ℤ) (last bend : Bend)
+    (found : List BoxShape) (edges : Edges) → (u : WireLeft text scale layer w stop all from last found) → (u.rest ≡ [] → ⊥) → 0 < w
+    → StandsFor (grid_of scale) (pos w) width → BendLaw text scale from next bend → EdgesLaw text width last bend edges → AreNearEdges edges
+    → WireStep text scale layer w stop all from next last bend found edges
+wire_step text scale layer w stop all from next width last bend found edges u n some st bl el near =
+    let k = wire_next text scale layer w stop all from last found u n in
+    let m = bl stop k.point (flat_map point_parts k.rest) k.parts in
+    record {
+      segment = k;
+      here = m.0;
+      parts = m.1;
+      way = way_found scale layer w k.start k.point edges some k.between (el (grid_of scale) w k.start k.point st k.here m.0) near;
+    }
+
 pub wire_more : (text : List ℕ) (scale : Scale) (layer : Layer) (w stop : ℕ) (all : List BoxShape) (from next : ℕ) (last bend : Bend) (found pushed : List BoxShape)
-    (b : BoxShape) → (n : WireNext text scale layer w stop all from last found) → BendAt text (grid_of scale) n.point bend
-    → PartsAt text next stop (flat_map point_parts n.rest) → b ≡ box_of scale layer (segment_outline w (way n.start n.point)) → pushed ≡ found ++ b ∷ []
-    → WireLeft text scale layer w stop all next bend pushed
-wire_more text scale layer w stop all from next last bend found pushed b n h p e f =
+    (edges : Edges) (b : BoxShape) → WireStep text scale layer w stop all from next last bend found edges → b ≡ box_of scale layer (outline_of edges)
+    → pushed ≡ found ++ b ∷ [] → WireLeft text scale layer w stop all next bend pushed
+wire_more text scale layer w stop all from next last bend found pushed edges b s e f =
+    let n = s.segment in
     let more : List BoxShape = map (box_of scale layer) (outlines_from w n.point n.rest) in
     record {
       start = n.point;
       rest = n.rest;
-      here = h;
-      parts = p;
+      here = s.here;
+      parts = s.parts;
       clear = n.behind;
       join =
           n.join
-          ∙ (ap (λ (x : BoxShape). found ++ x ∷ more) (sym e)
+          ∙ (ap (λ (x : BoxShape). found ++ x ∷ more) (sym (e ∙ s.way.box))
           ∙ (sym (append_assoc found (b ∷ []) more) ∙ ap (λ (l : List BoxShape). l ++ more) (sym f)));
     }
 

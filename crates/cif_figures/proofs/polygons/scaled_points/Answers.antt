@@ -1,17 +1,8 @@
 -- One point after another.
-use Rattle.std.proofs.Common.{ℕ, List, flat_map, sym, subst, arith}
-use Rattle.geom.specs.declared.point.Point.{Point}
+use Rattle.std.proofs.Common.{flat_map}
 use Rattle.geom.specs.CifCommands.{point_parts}
-use Rattle.cif_figures.proofs.PolygonPoints.{PointsLeft, points_begin, points_next, points_more, points_end, next_x, next_y, same_stands}
+use Rattle.cif_figures.proofs.PolygonPoints.{points_next, points_more, points_end, next_x, next_y, same_stands}
 use Rattle.cif_figures.proofs.polygons.scaled_points.Goals as goal
-
-pub loop-scale-init : goal.loop-scale-init
-loop-scale-init c = record {
-  place = c.requires.place;
-  up_to = λ points h. (
-      let P : List Point → Type 0 = λ l. PointsLeft c.args.text.now c.args.scale h.stop points c.args.at l in
-      subst P (sym c.new-points.ensures.items) (points_begin c.args.text.now c.args.scale points c.args.at h));
-}
 
 pub scaled_point-requires-clause-across : goal.scaled_point-requires-clause-across
 scaled_point-requires-clause-across c =
