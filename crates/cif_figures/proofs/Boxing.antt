@@ -1,24 +1,26 @@
 -- Boxes that meet no code.
-use Rattle.std.proofs.Common.{◌≡◌, ◌⊎◌, inl, inr, ℕ, zero, suc, ◌^◌, ◌≤◌, ◌<◌, Bool, true, false, cond, not, ℤ, pos, negsuc, neg_ℤ, ◌+ℤ◌, ◌-ℤ◌, ◌*ℤ◌, ◌<ℤ◌, ◌≤ℤ◌, List, [], ◌∷◌, map, flat_map, Option, Some, None, refl, sym, ◌∙◌, ap, subst, arith}
+use Rattle.std.proofs.Common.{◌≡◌, inl, inr, ℕ, ◌^◌, ◌≤◌, ◌<◌, Bool, true, false, cond, not, ℤ, pos, negsuc, neg_ℤ, ◌+ℤ◌, ◌-ℤ◌, ◌*ℤ◌, ◌<ℤ◌, ◌≤ℤ◌, List, [], ◌∷◌, map, flat_map, Option, Some, None, refl, sym, ◌∙◌, ap, subst, arith}
 use Rattle.std.specs.Int.RustNames.{unsigned_abs}
-use mir.Syntax.{w64}
-use mir.Val.{to_z, of_z}
-use Rattle.std.proofs.lemmas.Int.{ints, to_z-of_z, fits_signed_from_abs}
+use Rattle.std.proofs.Math.Nat.{pos_of_ne-zero}
+use Rattle.std.proofs.lemmas.Bool.{true_from_ne_false}
+use Rattle.std.proofs.lemmas.Int.{ints}
 use Rattle.geom.specs.declared.layer.Layer.{Layer}
 use Rattle.geom.specs.declared.point.Point.{Point}
 use Rattle.geom.specs.declared.cif_code.CifCode.TheVariants.{C7, C8, C9}
 use Rattle.geom.specs.CifCommands.{CifScale, DrawsBox, command_parts}
 use Rattle.geom.specs.CifShapes.{Outline, is_zero, is_along_axis, outlined_box}
-use Rattle.geom.specs.CifDrawings.{CifState, scale_of, direction_or_east, centred_outline, box_outlines, scaled}
-use Rattle.geom.specs.CifCodes.{SomeIs, IsTooGreat, IsOffGrid, IsFarOff, MeetsCode, part_numbers, command_distances, outline_distances}
+use Rattle.geom.specs.CifDrawings.{direction_or_east, centred_outline, box_outlines, scaled}
+use Rattle.geom.specs.CifCodes.{SomeIs, IsTooGreat, IsOffGrid, IsFarOff, part_numbers, outline_distances}
 use Rattle.cif_values.specs.declared.boxes.Sides.{Sides}
-use Rattle.cif_values.specs.Values.{SidesStand, PointStands, DirectionStands, AreNearSides}
+use Rattle.cif_values.specs.Values.{DirectionStands, AreNearSides}
 use Rattle.cif_codes.specs.declared.scale.Scale.{Scale}
 use Rattle.cif_codes.specs.declared.edges.Edges.{Edges}
 use Rattle.cif_codes.specs.Scales.{ratio, grid_of}
 use Rattle.cif_figures.specs.Boxes.{IsClearBox, is_upright, centred_edges}
 use Rattle.cif_figures.specs.Rectangles.{outline_of, IsDrawn}
 use Rattle.cif_figures.proofs.Clear.{drawn_edge}
+use Rattle.cif_figures.proofs.Scaling.{same_point}
+use Rattle.cif_figures.proofs.Words.{word, number_word}
 
 -- ---- what no code says
 
@@ -33,17 +35,6 @@ pub record Told (scale : Scale) (along across : ℕ) (centre : Point) (direction
   pub upright : is_upright sides.direction ≡ not (is_zero (direction_or_east direction).y)
   pub on_grid : SomeIs (IsOffGrid (ratio scale)) (flat_map outline_distances (box_outlines along across centre (direction_or_east direction))) → ⊥
   pub not_far : SomeIs (IsFarOff (ratio scale)) (flat_map outline_distances (box_outlines along across centre (direction_or_east direction))) → ⊥
-
-same_point : (p q : Point) → p.x ≡ q.x → p.y ≡ q.y → p ≡ q
-same_point p q e f = λ i. record { x = e i; y = f i }
-
-positive : (n : ℕ) → (n ≡ 0 → ⊥) → 0 < n
-positive zero h = absurd (h refl)
-positive (suc n) h = omega arith
-
-surely : (t : Bool) → (t ≡ false → ⊥) → t ≡ true
-surely true h = refl
-surely false h = absurd (h refl)
 
 upright_is : (m : ℕ) (written found : Option Point) → DirectionStands m written found
     → ((p : Point) → written ≡ Some p → IsTooGreat p.y → ⊥) → is_upright found ≡ not (is_zero (direction_or_east written).y)
@@ -64,9 +55,9 @@ told scale layer along across centre direction sides h =
       along_is = h.stand.along_is.exact (λ g. none (inl g));
       across_is = h.stand.across_is.exact (λ g. none (inr (inl g)));
       centre_is = same_point sides.centre centre x y;
-      some_along = positive along (λ e. h.clear C9 (inl e));
-      some_across = positive across (λ e. h.clear C9 (inr (inl e)));
-      axis = surely (is_along_axis (direction_or_east direction).x (direction_or_east direction).y) (λ e. h.clear C9 (inr (inr e)));
+      some_along = pos_of_ne-zero (λ e. h.clear C9 (inl e));
+      some_across = pos_of_ne-zero (λ e. h.clear C9 (inr (inl e)));
+      axis = true_from_ne_false (is_along_axis (direction_or_east direction).x (direction_or_east direction).y) (λ e. h.clear C9 (inr (inr e)));
       upright = upright_is (grid_of scale) direction sides.direction h.stand.direction_is (λ p e g. none (great_direction p e g));
       on_grid = subst P h.scale_is (λ k. h.clear C7 k);
       not_far = subst Q h.scale_is (λ k. h.clear C8 (inr k));
@@ -93,13 +84,13 @@ bounds_abs : (u : ℤ) (n : ℕ) → neg_ℤ (pos n) ≤ℤ u → u ≤ℤ pos n
 bounds_abs (pos a) n l m = omega (arith, ints, l, m)
 bounds_abs (negsuc a) n l m = omega (arith, ints, l, m)
 
-lower_near : (u v : ℤ) → unsigned_abs u ≤ 2 ^ 52 → unsigned_abs v ≤ 2 ^ 52 → unsigned_abs (pos 2 *ℤ u -ℤ v) ≤ 2 ^ 55
+pub lower_near : (u v : ℤ) → unsigned_abs u ≤ 2 ^ 52 → unsigned_abs v ≤ 2 ^ 52 → unsigned_abs (pos 2 *ℤ u -ℤ v) ≤ 2 ^ 55
 lower_near u v h k =
     let a = abs_bounds u (2 ^ 52) h in
     let b = abs_bounds v (2 ^ 52) k in
     bounds_abs (pos 2 *ℤ u -ℤ v) (2 ^ 55) (omega (arith, ints, a.0, a.1, b.0, b.1)) (omega (arith, ints, a.0, a.1, b.0, b.1))
 
-upper_near : (u v : ℤ) → unsigned_abs u ≤ 2 ^ 52 → unsigned_abs v ≤ 2 ^ 52 → unsigned_abs (pos 2 *ℤ u +ℤ v) ≤ 2 ^ 55
+pub upper_near : (u v : ℤ) → unsigned_abs u ≤ 2 ^ 52 → unsigned_abs v ≤ 2 ^ 52 → unsigned_abs (pos 2 *ℤ u +ℤ v) ≤ 2 ^ 55
 upper_near u v h k =
     let a = abs_bounds u (2 ^ 52) h in
     let b = abs_bounds v (2 ^ 52) k in
@@ -144,13 +135,6 @@ centred_is p w h centre wide high e f g =
 
 -- ---- the box
 
--- a number in a machine word
-abbrev pub word : ℤ → ℤ
-word v = to_z w64 (of_z w64 v)
-
-word_same : (v : ℤ) → unsigned_abs v ≤ 2 ^ 52 → word v ≡ v
-word_same v h = to_z-of_z w64 v (fits_signed_from_abs w64 v (omega (arith, h)))
-
 -- the edges of the box, and the box that it draws
 pub record Boxed (scale : Scale) (layer : Layer) (along across : ℕ) (centre : Point) (direction : Option Point) (edges : Edges) : Type 0 where
   pub drawn : IsDrawn (ratio scale) edges
@@ -189,8 +173,8 @@ pub boxed_upright : (scale : Scale) (layer : Layer) (along across : ℕ) (centre
     → edges ≡ centred_edges sides.centre (word sides.across) (word sides.along) → Boxed scale layer along across centre direction edges
 boxed_upright scale layer along across centre direction sides edges t c n u e f =
     let k = told scale layer along across centre direction sides c in
-    let wa = word_same sides.along n.along_near in
-    let wc = word_same sides.across n.across_near in
+    let wa = number_word sides.along n.along_near in
+    let wc = number_word sides.across n.across_near in
     let P : ℤ → Type 0 = λ v. unsigned_abs v ≤ 2 ^ 52 in
     boxed_by scale layer along across centre direction sides edges false across along (word sides.across) (word sides.along) k
     (negated t (is_zero (direction_or_east direction).y) false (u ∙ k.upright) e) refl (wc ∙ k.across_is) (wa ∙ k.along_is) k.some_across k.some_along
@@ -201,8 +185,8 @@ pub boxed_flat : (scale : Scale) (layer : Layer) (along across : ℕ) (centre : 
     → edges ≡ centred_edges sides.centre (word sides.along) (word sides.across) → Boxed scale layer along across centre direction edges
 boxed_flat scale layer along across centre direction sides edges t c n u e f =
     let k = told scale layer along across centre direction sides c in
-    let wa = word_same sides.along n.along_near in
-    let wc = word_same sides.across n.across_near in
+    let wa = number_word sides.along n.along_near in
+    let wc = number_word sides.across n.across_near in
     let P : ℤ → Type 0 = λ v. unsigned_abs v ≤ 2 ^ 52 in
     boxed_by scale layer along across centre direction sides edges true along across (word sides.along) (word sides.across) k
     (negated t (is_zero (direction_or_east direction).y) true (u ∙ k.upright) e) refl (wa ∙ k.along_is) (wc ∙ k.across_is) k.some_along k.some_across

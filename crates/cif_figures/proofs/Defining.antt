@@ -1,7 +1,8 @@
 -- Definitions that open.
-use Rattle.std.proofs.Common.{◌≡◌, ◌≢◌, ◌⊎◌, inl, inr, ℕ, zero, suc, ◌+◌, ◌-◌, ◌^◌, ◌≤◌, ◌<◌, ◌==◌, Bool, true, false, cond, ◌||◌, ℤ, pos, negsuc, List, [], ◌∷◌, flat_map, Option, Some, None, IsSome, is_some, refl, sym, ◌∙◌, ap, subst, arith}
+use Rattle.std.proofs.Common.{◌≡◌, ◌≢◌, inl, inr, ℕ, ◌+◌, ◌-◌, ◌^◌, ◌≤◌, ◌<◌, ◌==◌, Bool, true, false, cond, ◌||◌, ℤ, pos, negsuc, List, [], ◌∷◌, flat_map, Option, Some, None, IsSome, refl, sym, ◌∙◌, ap, subst, arith}
 use Rattle.std.specs.Bool.{Decides}
 use Rattle.std.specs.Int.RustNames.{unsigned_abs}
+use Rattle.std.proofs.Math.Nat.{pos_of_ne-zero}
 use Rattle.std.proofs.lemmas.Bool.{cases_lt}
 use Rattle.std.proofs.lemmas.Bool.Decides.{Decides-eqb}
 use Rattle.std.proofs.lemmas.Int.{ints}
@@ -9,8 +10,8 @@ use Rattle.geom.specs.declared.point.Point.{Point}
 use Rattle.geom.specs.declared.cif_code.CifCode.{CifCode}
 use Rattle.geom.specs.declared.cif_code.CifCode.TheVariants.{C8}
 use Rattle.geom.specs.CifCommands.{CifScale, CifCommand, Opens, command_parts, SpellsCommand, IsLegalCommand}
-use Rattle.geom.specs.CifCodes.{SomeIs, IsTooGreat, MeetsCode, part_numbers, is_defined}
-use Rattle.geom.specs.CifDrawings.{CifState, CifSymbol, CifOpening, scale_or_one}
+use Rattle.geom.specs.CifCodes.{SomeIs, IsTooGreat, part_numbers, is_defined}
+use Rattle.geom.specs.CifDrawings.{CifState, scale_or_one}
 use Rattle.cif_values.specs.declared.openings.Opening.{Opening}
 use Rattle.cif_values.specs.Numbers.{StandsFor}
 use Rattle.cif_values.specs.Values.{OpeningStands, ScaleStands}
@@ -23,6 +24,7 @@ use Rattle.cif_figures.specs.Figures.{CommandOf, Leads, IsNumberFor}
 use Rattle.cif_figures.specs.Openings.{opened_state, scale_by}
 use Rattle.cif_figures.proofs.ByKind.{PartsLaw, is_opening, parts_of, spelled_of}
 use Rattle.cif_figures.proofs.Simple.{leads_by}
+use Rattle.cif_figures.proofs.Words.{word, number_word}
 
 -- ---- a number and what stands for it
 
@@ -39,6 +41,9 @@ great_abs (pos n) (inr g) = absurd (omega (arith, ints, g))
 great_abs (negsuc n) (inl g) = absurd (omega (arith, ints, g))
 great_abs (negsuc n) (inr g) = omega (arith, ints, g)
 
+pub stands_word : (m : ℕ) (z v : ℤ) → StandsFor m z v → word v ≡ v
+stands_word m z v s = number_word v s.near
+
 pub number_for : (m n : ℕ) (v : ℤ) → StandsFor m (pos n) v → IsNumberFor n (unsigned_abs v)
 number_for m n v s = record { exact = λ l. ap unsigned_abs (s.exact (not_great n l)); great = λ l. great_abs v (s.great (great_nat n l)) }
 
@@ -47,7 +52,7 @@ few_nat n h = elim (cases_lt (2 ^ 40) n) [ inl l ↦ absurd (h (great_nat n l)) 
 
 -- ---- a state with these flags
 
-flag_state : Bool → Bool → ℕ → CifState
+abbrev flag_state : Bool → Bool → ℕ → CifState
 flag_state again nested n = record {
   symbols = cond again (record { number = n; boxes = []; chain = 0 } ∷ []) [];
   opening = cond nested (Some (record { symbol = record { number = n + 1; boxes = []; chain = 0 }; scale = record { times = 1; per = 1 }; outer = None })) None;
@@ -79,7 +84,7 @@ flag_nested again false n = (λ e. absurd cc, λ e. absurd cc)
 
 -- the numbers of such a definition
 pub record Defined (n : ℕ) (scale : Option CifScale) (opening : Opening) (found : Scale) : Type 0 where
-  pub number_is : unsigned_abs opening.number ≡ n
+  pub number_is : unsigned_abs (word opening.number) ≡ n
   pub few : n ≤ 2 ^ 40
   pub scale_is : ratio found ≡ scale_or_one scale
   pub in_range : IsScale found
@@ -87,10 +92,6 @@ pub record Defined (n : ℕ) (scale : Option CifScale) (opening : Opening) (foun
 none_great : (again nested : Bool) (n : ℕ) (scale : Option CifScale) → ((s : CifState) → Decides again (is_defined s n ≡ true) → Decides nested (IsSome s.opening)
     → IsLeastCode s (Opens n scale) None) → SomeIs IsTooGreat (flat_map part_numbers (command_parts (Opens n scale))) → ⊥
 none_great again nested n scale h g = h (flag_state again nested n) (flag_again again nested n) (flag_nested again nested n) C8 (inl g)
-
-positive : (n : ℕ) → n ≢ 0 → 0 < n
-positive zero h = absurd (h refl)
-positive (suc n) h = omega arith
 
 abs_exact : (m n : ℕ) (v : ℤ) → StandsFor m (pos n) v → (IsTooGreat (pos n) → ⊥) → unsigned_abs v ≡ n
 abs_exact m n v s h = ap unsigned_abs (s.exact h)
@@ -116,8 +117,8 @@ scale_found m (Some s) (Some q) found h e f =
     let b : found.per ≡ s.per = ap (λ (s : CifScale). s.per) e ∙ y in
     let c = few_nat s.times k.0.0 in
     let d = few_nat s.per k.0.1 in
-    let t = positive s.times k.1.0 in
-    let u = positive s.per k.1.1 in (
+    let t : 0 < s.times = pos_of_ne-zero k.1.0 in
+    let u : 0 < s.per = pos_of_ne-zero k.1.1 in (
       same_scale (ratio found) s a b,
       record { some_times = omega (arith, a, t); few_times = omega (arith, a, c); some_per = omega (arith, b, u); few_per = omega (arith, b, d) },
     )
@@ -130,7 +131,7 @@ defined m n scale opening found again nested bytes h sp none e =
     let g = none_great again nested n scale none in
     let k = scale_found m scale opening.scale found h.scale_is e (numbers scale g sp.0) in
     record {
-      number_is = abs_exact m n opening.number h.number_is (λ i. g (first scale i));
+      number_is = ap unsigned_abs (stands_word m (pos n) opening.number h.number_is) ∙ abs_exact m n opening.number h.number_is (λ i. g (first scale i));
       few = few_nat n (λ i. g (first scale i));
       scale_is = k.0;
       in_range = k.1;
@@ -140,6 +141,9 @@ defined m n scale opening found again nested bytes h sp none e =
     first None i = inl i
     first (Some s) i = inl i
 
+    inside : (t s : CifScale) → ◌≡◌ {A = Option CifScale} (Some t) (Some s) → t ≡ s
+    inside t s e = cc
+
     numbers : (scale : Option CifScale) → (SomeIs IsTooGreat (flat_map part_numbers (command_parts (Opens n scale))) → ⊥) → IsLegalCommand (Opens n scale)
         → (s : CifScale) → scale ≡ Some s → ((IsTooGreat (pos s.times) → ⊥) × (IsTooGreat (pos s.per) → ⊥)) × ((s.times ≢ 0) × (s.per ≢ 0))
     numbers None g l s e = absurd cc
@@ -147,12 +151,6 @@ defined m n scale opening found again nested bytes h sp none e =
         let f : t ≡ s = inside t s e in
         let P : CifScale → Type 0 = λ v. ((IsTooGreat (pos v.times) → ⊥) × (IsTooGreat (pos v.per) → ⊥)) × ((v.times ≢ 0) × (v.per ≢ 0)) in
         subst P f ((λ i. g (inr (inl i)), λ i. g (inr (inr (inl i)))), (l.0, l.1))
-
-    inside : (t s : CifScale) → ◌≡◌ {A = Option CifScale} (Some t) (Some s) → t ≡ s
-    inside t s e = cc
-
-same_symbol : (n k : ℕ) → n ≡ k → ◌≡◌ {A = CifSymbol} (record { number = n; boxes = []; chain = 0 }) (record { number = k; boxes = []; chain = 0 })
-same_symbol n k e = ap (λ (v : ℕ). record { number = v; boxes = []; chain = 0 }) e
 
 -- the state that it leads to
 pub opening_leads : (s : CifState) (c : CifCommand) (n number : ℕ) (scale : Option CifScale) (found : CifScale) (r : Option CifCode) → c ≡ Opens n scale → r ≡ None

@@ -7,7 +7,9 @@ pub mod Places
 pub mod Clear
 pub mod Drawing
 pub mod Scaling
-pub mod Words
 pub mod PolygonPoints
+pub mod Words
+pub mod Stepping
+pub mod Calling
 pub mod WirePoints
 pub mod Wiring

@@ -1,6 +1,7 @@
 -- The points of wires, one after another.
-use Rattle.std.proofs.Common.{◌≡◌, ◌≢◌, inl, inr, ℕ, zero, suc, ◌<◌, true, ℤ, pos, ◌-ℤ◌, ◌+ℤ◌, ◌<ℤ◌, List, [], ◌∷◌, ◌++◌, length, map, flat_map, codes, refl, sym, ◌∙◌, ap, subst, append_assoc, arith}
+use Rattle.std.proofs.Common.{◌≡◌, ◌≢◌, inl, inr, ℕ, ◌<◌, true, ℤ, pos, ◌-ℤ◌, ◌+ℤ◌, ◌<ℤ◌, List, [], ◌∷◌, ◌++◌, length, map, flat_map, codes, refl, sym, ◌∙◌, ap, subst, append_assoc, arith}
 use Rattle.std.specs.Int.{int_min, int_max}
+use Rattle.std.proofs.Math.Nat.{pos_of_ne-zero}
 use Rattle.std.proofs.lemmas.Int.{ints, clamps}
 use Rattle.std.proofs.lemmas.List.{append-nil}
 use Rattle.geom.specs.declared.layer.Layer.{Layer}
@@ -131,14 +132,10 @@ wire_read text scale layer first w points h m letter from next width start e ll 
     let P : ℕ → Type 0 = λ n. StandsFor n (pos w) width in
     let Q : ℤ → Type 0 = λ v. StandsFor (grid_of scale) (pos w) v in
     record {
-      some = positive w (λ z. h.even (inl z));
+      some = pos_of_ne-zero (λ z. h.even (inl z));
       stands = subst Q (sym (number_word width b.0.near)) (subst P e b.0);
       begun = wire_begun text scale layer first w points from next start h b.1 bl;
     }
-  where
-    positive : (n : ℕ) → (n ≡ 0 → ⊥) → 0 < n
-    positive zero h = absurd (h refl)
-    positive (suc n) h = omega arith
 
 -- the only point is a segment to itself
 pub record WireSingle (scale : Scale) (layer : Layer) (w : ℕ) (point : Point) (all : List BoxShape) : Type 0 where
@@ -248,7 +245,7 @@ wire_next text scale layer w stop all from last found u n = by u.rest u.parts u.
 
 -- the next segment, whose edges are found
 pub record WireStep (text : List ℕ) (scale : Scale) (layer : Layer) (w stop : ℕ) (all : List BoxShape) (from next : ℕ) (last bend : Bend) (found : List BoxShape)
-  (edges : Edges) : Type 0 where
+    (edges : Edges) : Type 0 where
   pub segment : WireNext text scale layer w stop all from last found
   pub here : BendAt text (grid_of scale) segment.point bend
   pub parts : PartsAt text next stop (flat_map point_parts segment.rest)

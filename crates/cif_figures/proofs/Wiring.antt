@@ -1,5 +1,5 @@
 -- Wires that stand in a text.
-use Rattle.std.proofs.Common.{◌≡◌, ◌≢◌, inl, inr, ℕ, ◌-◌, List, [], ◌∷◌, Option, Some, None, refl, sym, ◌∙◌, subst}
+use Rattle.std.proofs.Common.{◌≡◌, ◌≢◌, inl, inr, ℕ, ◌-◌, List, [], Option, Some, None, refl, sym, ◌∙◌, subst}
 use Rattle.geom.specs.declared.layer.Layer.{Layer}
 use Rattle.geom.specs.declared.point.Point.{Point}
 use Rattle.geom.specs.declared.cif_code.CifCode.{CifCode}
@@ -94,7 +94,7 @@ wire_leads s c text first scale given layer found r boxes h cl wl e g f d =
     leads_by s c (DrawsWire h.w h.points) None (λ place. drawn_in s place boxes 0 s.opening) h.is refl
     (wire_least s c text first scale given found r None h cl wl e d.scale_is d.layer_is)
     (λ place. (
-    boxes,
-    shaped s (DrawsWire h.w h.points) (ratio scale) layer boxes d.scale_is (d.layer_is ∙ g) (f h.w h.points (wire_clear c text first scale given found r h cl wl e)),
-    refl,
-  ))
+      boxes,
+      shaped s (DrawsWire h.w h.points) (ratio scale) layer boxes d.scale_is (d.layer_is ∙ g) (f h.w h.points (wire_clear c text first scale given found r h cl wl e)),
+      refl,
+    ))

@@ -15,7 +15,7 @@ boxes_of-requires-clause-clear c =
       h.w,
       h.points,
       wire_clear k.stands.here.command c.args.text.now c.args.first c.args.scale c.args.layer c.wire_checks-found.result c.wire_code.result h
-      c.wire_checks-found.ensures c.wire_code.ensures c.in-None.is,
+          c.wire_checks-found.ensures c.wire_code.ensures c.in-None.is,
     )
 
 pub returns-in_ok-boxes_of-in-Some-layer-clause-drawn : goal.returns-in_ok-boxes_of-in-Some-layer-clause-drawn
