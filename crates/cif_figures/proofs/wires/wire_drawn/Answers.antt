@@ -5,7 +5,8 @@ use Rattle.cif_figures.proofs.wires.wire_drawn.Goals as goal
 
 pub returns-in-Some-clause-fault : goal.returns-in-Some-clause-fault
 returns-in-Some-clause-fault c = λ s end k d.
-    wire_fault s k.stands.here.command c.args.text.now c.args.first c.args.scale c.args.layer c.wire_checks-found.result c.wire_code.result (Some c.in-Some.code)
+    wire_fault s k.stands.here.command c.args.text.now c.args.first c.args.scale c.args.layer c.wire_checks-found.result c.wire_code.result
+    (Some c.in-Some.code)
     (wire_at c.args.text.now c.args.first end k c.parts_stand.ensures) c.wire_checks-found.ensures c.wire_code.ensures c.in-Some.is d
 
 pub boxes_of-requires-clause-clear : goal.boxes_of-requires-clause-clear
@@ -20,7 +21,9 @@ boxes_of-requires-clause-clear c =
 
 pub returns-in_ok-boxes_of-in-Some-layer-clause-drawn : goal.returns-in_ok-boxes_of-in-Some-layer-clause-drawn
 returns-in_ok-boxes_of-in-Some-layer-clause-drawn c = λ s end k d.
-    wire_leads s k.stands.here.command c.args.text.now c.args.first c.args.scale c.args.layer c.in-Some-layer.layer c.wire_checks-found.result c.wire_code.result
+    wire_leads s k.stands.here.command c.args.text.now c.args.first c.args.scale c.args.layer c.in-Some-layer.layer c.wire_checks-found.result
+    c.wire_code.result
     c.in_ok-boxes_of-in-Some-layer.field-0.items
-    (wire_at c.args.text.now c.args.first end k c.parts_stand.ensures) c.wire_checks-found.ensures c.wire_code.ensures c.in-None.is c.in-Some-layer.is
+    (wire_at c.args.text.now c.args.first end k c.parts_stand.ensures) c.wire_checks-found.ensures c.wire_code.ensures c.in-None.is
+    c.in-Some-layer.is
     c.in_ok-boxes_of-in-Some-layer.ensures d
