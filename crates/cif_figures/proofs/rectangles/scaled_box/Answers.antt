@@ -26,6 +26,9 @@ side scale l r x y s a b o e f h k =
     let Q : ℤ → Type 0 = λ z. IsSide x z in
     subst P (sym (reachable_word x h)) (subst Q (sym (reachable_word y k)) (record { first = h.from; order = less; last = k.to }))
 
+pub scaled-requires-clause-not_far : goal.scaled-requires-clause-not_far
+scaled-requires-clause-not_far c = (edge_word (ratio c.args.scale) c.args.edges.left c.requires.drawn.left).not_far
+
 pub scaled-requires-2-clause-not_far : goal.scaled-requires-2-clause-not_far
 scaled-requires-2-clause-not_far c = (edge_word (ratio c.args.scale) c.args.edges.bottom c.requires.drawn.bottom).not_far
 
