@@ -1,6 +1,6 @@
 -- The boxes of the wire, or its code.
 use Rattle.std.proofs.Common.{Some}
-use Rattle.cif_figures.proofs.Wiring.{wire_at, wire_fault, wire_clear, wire_leads}
+use Rattle.cif_figures.proofs.Wiring.{wire_at, wire_fault, wire_bare, wire_clear, wire_leads}
 use Rattle.cif_figures.proofs.wires.wire_drawn.Goals as goal
 
 pub returns-in-Some-clause-fault : goal.returns-in-Some-clause-fault
@@ -8,6 +8,13 @@ returns-in-Some-clause-fault c = λ s end k d.
     wire_fault s k.stands.here.command c.args.text.now c.args.first c.args.scale c.args.layer c.wire_checks-found.result c.wire_code.result
     (Some c.in-Some.code)
     (wire_at c.args.text.now c.args.first end k c.parts_stand.ensures) c.wire_checks-found.ensures c.wire_code.ensures c.in-Some.is d
+
+pub returns-in-None-layer-clause-fault : goal.returns-in-None-layer-clause-fault
+returns-in-None-layer-clause-fault c = λ s end k d.
+    absurd
+    (wire_bare k.stands.here.command c.args.text.now c.args.first c.args.scale c.args.layer c.wire_checks-found.result
+    c.wire_code.result (wire_at c.args.text.now c.args.first end k c.parts_stand.ensures) c.wire_checks-found.ensures
+    c.wire_code.ensures c.in-None.is c.in-None-layer.is)
 
 pub boxes_of-requires-clause-clear : goal.boxes_of-requires-clause-clear
 boxes_of-requires-clause-clear c =
