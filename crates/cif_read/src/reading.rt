@@ -79,7 +79,7 @@ impl Reader {
     {
         match text_end(text, first, self.is_open()) {
             Ok(()) => Ok(None),
-            Err(fault) => Err(fault_at(text, fault.code, fault.at)),
+            Err(wrong) => Err(fault_at(text, wrong.code, wrong.at)),
         }
     }
 }

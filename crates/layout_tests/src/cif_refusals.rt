@@ -176,14 +176,8 @@ const BOXES: &[(&str, &str)] = &[
     ("DS 1; DF; C 1 T 0 -1099511628000; E", "C8 1:11"),
     ("DS 1;DF;C 1 R 1099511627777 0;E", "C8 1:9"),
     ("DS 1;DF;C 1 R 1099511627777 1;E", "C8 1:9"),
-    (
-        "DS 1;DF;DS 2 200 1;C 1 T 1099511627777 0;DF;E",
-        "C8 1:20",
-    ),
-    (
-        "DS 1;DF;DS 2 400 1;C 1 T 1099511627776 0;DF;E",
-        "C8 1:20",
-    ),
+    ("DS 1;DF;DS 2 200 1;C 1 T 1099511627777 0;DF;E", "C8 1:20"),
+    ("DS 1;DF;DS 2 400 1;C 1 T 1099511627776 0;DF;E", "C8 1:20"),
     ("DS 1; DF; C 1 R 1 1; E", "C9 1:11"),
     ("DS 1; DF; C 1 R 0 0; E", "C9 1:11"),
     ("DS 1; DF; C 1 R 0 1 R 5 -5 M X; E", "C9 1:11"),
@@ -192,8 +186,14 @@ const BOXES: &[(&str, &str)] = &[
 /// Polygons, wires and labels.
 const SHAPES: &[(&str, &str)] = &[
     ("L NM; P 0 0 800 0 800 400 100 400; E", "C7 1:7"),
-    ("L NM; P 0 0 1099511627777 0 1099511627777 200 0 200; E", "C7 1:7"),
-    ("L NM; P 0 0 1099511628000 0 1099511628000 200 0 200; E", "C8 1:7"),
+    (
+        "L NM; P 0 0 1099511627777 0 1099511627777 200 0 200; E",
+        "C7 1:7",
+    ),
+    (
+        "L NM; P 0 0 1099511628000 0 1099511628000 200 0 200; E",
+        "C8 1:7",
+    ),
     ("L NM; P 0 0 1099511628000 1099511628000 0 0; E", "C8 1:7"),
     ("L NM; P 0 0 800 400 0 400; E", "C9 1:7"),
     ("L NM; P 0 0 400 0 400 400; E", "C9 1:7"),
@@ -252,15 +252,28 @@ const LABELS: &[(&str, &str)] = &[
 ];
 
 /// A box, ten times ten times ten of it, and so on, a million in all; and the box where it is too far away.
-const MILLIONS: &str = "DS 1 100 1; L NM; B 8 8 4 4; DF;\nDS 2; C1;C1;C1;C1;C1;C1;C1;C1;C1;C1; DF;\nDS 3; C2;C2;C2;C2;C2;C2;C2;C2;C2;C2; DF;\nDS 4; C3;C3;C3;C3;C3;C3;C3;C3;C3;C3; DF;\nDS 5; C4;C4;C4;C4;C4;C4;C4;C4;C4;C4; DF;\nDS 6; C5;C5;C5;C5;C5;C5;C5;C5;C5;C5; DF;\nDS 7; C6;C6;C6;C6;C6;C6;C6;C6;C6;C6; DF;\nDS 8 200 1; C 1 T 1099511627776 0; DF;\n";
+const MILLIONS: &str = "DS 1 100 1; L NM; B 8 8 4 4; DF;\n\
+    DS 2; C1;C1;C1;C1;C1;C1;C1;C1;C1;C1; DF;\n\
+    DS 3; C2;C2;C2;C2;C2;C2;C2;C2;C2;C2; DF;\n\
+    DS 4; C3;C3;C3;C3;C3;C3;C3;C3;C3;C3; DF;\n\
+    DS 5; C4;C4;C4;C4;C4;C4;C4;C4;C4;C4; DF;\n\
+    DS 6; C5;C5;C5;C5;C5;C5;C5;C5;C5;C5; DF;\n\
+    DS 7; C6;C6;C6;C6;C6;C6;C6;C6;C6;C6; DF;\n\
+    DS 8 200 1; C 1 T 1099511627776 0; DF;\n";
 
 /// What stands behind those definitions, and what becomes of the text.
 const COUNTED: &[(&str, &str)] = &[
     ("C 7 T 0 200;C 7;C 7;C 7;C 7;C 7;C 7;C 7;C 7;E", "C13 9:41"),
     ("C 7;C 7;C 7;C 7;C 7;C 7;C 7;C 7;\nC 1;C 8;E", "C13 10:1"),
     ("C 7;C 7;C 7;C 7;C 7;C 7;C 7;C 7;\nC 8;C 1;E", "C8 10:1"),
-    ("DS 9;C 7;C 7;C 7;C 7;C 7;C 7;C 7;C 7;C 8;DF;\nC 9;E", "C8 10:1"),
-    ("DS 9;C 7;C 7;C 7;C 7;C 7;C 7;C 7;C 7;C 1;DF;\n C 9;C 8;E", "C13 10:2"),
+    (
+        "DS 9;C 7;C 7;C 7;C 7;C 7;C 7;C 7;C 7;C 8;DF;\nC 9;E",
+        "C8 10:1",
+    ),
+    (
+        "DS 9;C 7;C 7;C 7;C 7;C 7;C 7;C 7;C 7;C 1;DF;\n C 9;C 8;E",
+        "C13 10:2",
+    ),
     ("C 8 T -1099511627600 0;C 8;E", "C8 9:24"),
 ];
 
@@ -344,7 +357,13 @@ fn counts_boxes(rt: HostRuntime) -> Result<(), Fail> {
 }
 
 /// So many times the piece behind the text, and what comes last.
-fn repeated(alloc: Global, first: &str, piece: &str, times: usize, last: &str) -> Result<String, Fail> {
+fn repeated(
+    alloc: Global,
+    first: &str,
+    piece: &str,
+    times: usize,
+    last: &str,
+) -> Result<String, Fail> {
     let mut text = String::new(alloc);
     text.push_str(first)?;
     for _ in 0..times {
@@ -367,8 +386,20 @@ const REPEATED: &[(&str, &str, usize, &str, &str)] = &[
     ("L NM;W 200", " 100 100", 4097, " 5 5;E", "C7 1:6"),
     ("L NM;W 200", " 100 100", 4097, " 300 300;E", "C9 1:6"),
     ("W 200", " 100 100", 4097, ";E", "C3 1:1"),
-    ("L NM;P 0 0 400 0 400 400", " 200 400 0 400", 2047, ";E", "C15 1:6"),
-    ("L NM;P 0 0 400 0 400 400", " 200 400 400 400", 2046, " 0 400;E", "M 0 0 2 2"),
+    (
+        "L NM;P 0 0 400 0 400 400",
+        " 200 400 0 400",
+        2047,
+        ";E",
+        "C15 1:6",
+    ),
+    (
+        "L NM;P 0 0 400 0 400 400",
+        " 200 400 400 400",
+        2046,
+        " 0 400;E",
+        "M 0 0 2 2",
+    ),
 ];
 
 #[test]
@@ -382,7 +413,8 @@ fn reads_repeated_pieces(rt: HostRuntime) -> Result<(), Fail> {
 }
 
 /// A text with a command of each kind, in one line.
-const WHOLE: &str = "DS 1 2 1;L NM;B 400 800 200 400 0 1;DF;C 1 M X R 0 1 T 2800 0;L NP;P 0 0 200 0 200 200 0 200;W 200 100 100;94 VDD 0 0 NM;(c);;E";
+const WHOLE: &str =
+    "DS 1 2 1;L NM;B 400 800 200 400 0 1;DF;C 1 M X R 0 1 T 2800 0;L NP;P 0 0 200 0 200 200 0 200;W 200 100 100;94 VDD 0 0 NM;(c);;E";
 
 #[test]
 fn fronts_have_no_end(rt: HostRuntime) -> Result<(), Fail> {
@@ -421,6 +453,31 @@ fn follows_chains(rt: HostRuntime) -> Result<(), Fail> {
         let text = chain(rt.alloc(), inner, *links)?;
         let found = outcome(rt.alloc(), text.as_bytes())?;
         assert_eq!(rt; found.as_str(), *wanted, "{links}");
+    }
+    Ok(())
+}
+
+/// Definitions of which each calls the one before ten times, and a call in the last line.
+fn tenfold(alloc: Global, links: usize) -> Result<String, Fail> {
+    let mut text = format!(in alloc; "DS 1; L NM; B 800 800 400 400; DF;")?;
+    for k in 2..links + 1 {
+        let call = format!(in alloc; " C {};", k - 1)?;
+        let first = format!(in alloc; "\nDS {k};")?;
+        let line = repeated(alloc, first.as_str(), call.as_str(), 10, " DF;")?;
+        text.push_str(line.as_str())?;
+    }
+    let end = format!(in alloc; "\nC {links};\nE")?;
+    text.push_str(end.as_str())?;
+    Ok(text)
+}
+
+/// Ten to the seventh, to the twentieth and to the thirtieth boxes: more than may be, than 64 bits and than 96 bits hold.
+#[test]
+fn counts_past_all_words(rt: HostRuntime) -> Result<(), Fail> {
+    for (links, wanted) in [(8, "C13 9:1"), (21, "C13 22:1"), (31, "C13 32:1")] {
+        let text = tenfold(rt.alloc(), links)?;
+        let found = outcome(rt.alloc(), text.as_bytes())?;
+        assert_eq!(rt; found.as_str(), wanted, "{links}");
     }
     Ok(())
 }
