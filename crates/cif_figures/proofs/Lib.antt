@@ -8,3 +8,4 @@ pub mod Clear
 pub mod Drawing
 pub mod Scaling
 pub mod PolygonPoints
+pub mod Words
