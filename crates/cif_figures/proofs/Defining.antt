@@ -23,6 +23,7 @@ use Rattle.cif_figures.specs.Figures.{CommandOf, Leads, IsNumberFor}
 use Rattle.cif_figures.specs.Openings.{opened_state, scale_by}
 use Rattle.cif_figures.proofs.ByKind.{PartsLaw, is_opening, parts_of, spelled_of}
 use Rattle.cif_figures.proofs.Simple.{leads_by}
+use Rattle.cif_figures.proofs.Words.{word, near_word}
 
 -- ---- a number and what stands for it
 
@@ -39,6 +40,9 @@ great_abs (pos n) (inr g) = absurd (omega (arith, ints, g))
 great_abs (negsuc n) (inl g) = absurd (omega (arith, ints, g))
 great_abs (negsuc n) (inr g) = omega (arith, ints, g)
 
+pub stands_word : (m : ℕ) (z v : ℤ) → StandsFor m z v → word v ≡ v
+stands_word m z v s = near_word v (let n = s.near in omega (arith, n))
+
 pub number_for : (m n : ℕ) (v : ℤ) → StandsFor m (pos n) v → IsNumberFor n (unsigned_abs v)
 number_for m n v s = record { exact = λ l. ap unsigned_abs (s.exact (not_great n l)); great = λ l. great_abs v (s.great (great_nat n l)) }
 
@@ -47,7 +51,7 @@ few_nat n h = elim (cases_lt (2 ^ 40) n) [ inl l ↦ absurd (h (great_nat n l)) 
 
 -- ---- a state with these flags
 
-flag_state : Bool → Bool → ℕ → CifState
+abbrev flag_state : Bool → Bool → ℕ → CifState
 flag_state again nested n = record {
   symbols = cond again (record { number = n; boxes = []; chain = 0 } ∷ []) [];
   opening = cond nested (Some (record { symbol = record { number = n + 1; boxes = []; chain = 0 }; scale = record { times = 1; per = 1 }; outer = None })) None;
@@ -79,7 +83,7 @@ flag_nested again false n = (λ e. absurd cc, λ e. absurd cc)
 
 -- the numbers of such a definition
 pub record Defined (n : ℕ) (scale : Option CifScale) (opening : Opening) (found : Scale) : Type 0 where
-  pub number_is : unsigned_abs opening.number ≡ n
+  pub number_is : unsigned_abs (word opening.number) ≡ n
   pub few : n ≤ 2 ^ 40
   pub scale_is : ratio found ≡ scale_or_one scale
   pub in_range : IsScale found
@@ -130,7 +134,7 @@ defined m n scale opening found again nested bytes h sp none e =
     let g = none_great again nested n scale none in
     let k = scale_found m scale opening.scale found h.scale_is e (numbers scale g sp.0) in
     record {
-      number_is = abs_exact m n opening.number h.number_is (λ i. g (first scale i));
+      number_is = ap unsigned_abs (stands_word m (pos n) opening.number h.number_is) ∙ abs_exact m n opening.number h.number_is (λ i. g (first scale i));
       few = few_nat n (λ i. g (first scale i));
       scale_is = k.0;
       in_range = k.1;
@@ -140,6 +144,9 @@ defined m n scale opening found again nested bytes h sp none e =
     first None i = inl i
     first (Some s) i = inl i
 
+    inside : (t s : CifScale) → ◌≡◌ {A = Option CifScale} (Some t) (Some s) → t ≡ s
+    inside t s e = cc
+
     numbers : (scale : Option CifScale) → (SomeIs IsTooGreat (flat_map part_numbers (command_parts (Opens n scale))) → ⊥) → IsLegalCommand (Opens n scale)
         → (s : CifScale) → scale ≡ Some s → ((IsTooGreat (pos s.times) → ⊥) × (IsTooGreat (pos s.per) → ⊥)) × ((s.times ≢ 0) × (s.per ≢ 0))
     numbers None g l s e = absurd cc
@@ -147,9 +154,6 @@ defined m n scale opening found again nested bytes h sp none e =
         let f : t ≡ s = inside t s e in
         let P : CifScale → Type 0 = λ v. ((IsTooGreat (pos v.times) → ⊥) × (IsTooGreat (pos v.per) → ⊥)) × ((v.times ≢ 0) × (v.per ≢ 0)) in
         subst P f ((λ i. g (inr (inl i)), λ i. g (inr (inr (inl i)))), (l.0, l.1))
-
-    inside : (t s : CifScale) → ◌≡◌ {A = Option CifScale} (Some t) (Some s) → t ≡ s
-    inside t s e = cc
 
 same_symbol : (n k : ℕ) → n ≡ k → ◌≡◌ {A = CifSymbol} (record { number = n; boxes = []; chain = 0 }) (record { number = k; boxes = []; chain = 0 })
 same_symbol n k e = ap (λ (v : ℕ). record { number = v; boxes = []; chain = 0 }) e
