@@ -1,9 +1,7 @@
 -- Boxes that meet no code.
 use Rattle.std.proofs.Common.{◌≡◌, ◌⊎◌, inl, inr, ℕ, zero, suc, ◌^◌, ◌≤◌, ◌<◌, Bool, true, false, cond, not, ℤ, pos, negsuc, neg_ℤ, ◌+ℤ◌, ◌-ℤ◌, ◌*ℤ◌, ◌<ℤ◌, ◌≤ℤ◌, List, [], ◌∷◌, map, flat_map, Option, Some, None, refl, sym, ◌∙◌, ap, subst, arith}
 use Rattle.std.specs.Int.RustNames.{unsigned_abs}
-use mir.Syntax.{w64}
-use mir.Val.{to_z, of_z}
-use Rattle.std.proofs.lemmas.Int.{ints, to_z-of_z, fits_signed_from_abs}
+use Rattle.std.proofs.lemmas.Int.{ints}
 use Rattle.geom.specs.declared.layer.Layer.{Layer}
 use Rattle.geom.specs.declared.point.Point.{Point}
 use Rattle.geom.specs.declared.cif_code.CifCode.TheVariants.{C7, C8, C9}
@@ -19,6 +17,7 @@ use Rattle.cif_codes.specs.Scales.{ratio, grid_of}
 use Rattle.cif_figures.specs.Boxes.{IsClearBox, is_upright, centred_edges}
 use Rattle.cif_figures.specs.Rectangles.{outline_of, IsDrawn}
 use Rattle.cif_figures.proofs.Clear.{drawn_edge}
+use Rattle.cif_figures.proofs.Words.{word, number_word}
 
 -- ---- what no code says
 
@@ -93,13 +92,13 @@ bounds_abs : (u : ℤ) (n : ℕ) → neg_ℤ (pos n) ≤ℤ u → u ≤ℤ pos n
 bounds_abs (pos a) n l m = omega (arith, ints, l, m)
 bounds_abs (negsuc a) n l m = omega (arith, ints, l, m)
 
-lower_near : (u v : ℤ) → unsigned_abs u ≤ 2 ^ 52 → unsigned_abs v ≤ 2 ^ 52 → unsigned_abs (pos 2 *ℤ u -ℤ v) ≤ 2 ^ 55
+pub lower_near : (u v : ℤ) → unsigned_abs u ≤ 2 ^ 52 → unsigned_abs v ≤ 2 ^ 52 → unsigned_abs (pos 2 *ℤ u -ℤ v) ≤ 2 ^ 55
 lower_near u v h k =
     let a = abs_bounds u (2 ^ 52) h in
     let b = abs_bounds v (2 ^ 52) k in
     bounds_abs (pos 2 *ℤ u -ℤ v) (2 ^ 55) (omega (arith, ints, a.0, a.1, b.0, b.1)) (omega (arith, ints, a.0, a.1, b.0, b.1))
 
-upper_near : (u v : ℤ) → unsigned_abs u ≤ 2 ^ 52 → unsigned_abs v ≤ 2 ^ 52 → unsigned_abs (pos 2 *ℤ u +ℤ v) ≤ 2 ^ 55
+pub upper_near : (u v : ℤ) → unsigned_abs u ≤ 2 ^ 52 → unsigned_abs v ≤ 2 ^ 52 → unsigned_abs (pos 2 *ℤ u +ℤ v) ≤ 2 ^ 55
 upper_near u v h k =
     let a = abs_bounds u (2 ^ 52) h in
     let b = abs_bounds v (2 ^ 52) k in
@@ -144,13 +143,6 @@ centred_is p w h centre wide high e f g =
 
 -- ---- the box
 
--- a number in a machine word
-abbrev pub word : ℤ → ℤ
-word v = to_z w64 (of_z w64 v)
-
-word_same : (v : ℤ) → unsigned_abs v ≤ 2 ^ 52 → word v ≡ v
-word_same v h = to_z-of_z w64 v (fits_signed_from_abs w64 v (omega (arith, h)))
-
 -- the edges of the box, and the box that it draws
 pub record Boxed (scale : Scale) (layer : Layer) (along across : ℕ) (centre : Point) (direction : Option Point) (edges : Edges) : Type 0 where
   pub drawn : IsDrawn (ratio scale) edges
@@ -189,8 +181,8 @@ pub boxed_upright : (scale : Scale) (layer : Layer) (along across : ℕ) (centre
     → edges ≡ centred_edges sides.centre (word sides.across) (word sides.along) → Boxed scale layer along across centre direction edges
 boxed_upright scale layer along across centre direction sides edges t c n u e f =
     let k = told scale layer along across centre direction sides c in
-    let wa = word_same sides.along n.along_near in
-    let wc = word_same sides.across n.across_near in
+    let wa = number_word sides.along n.along_near in
+    let wc = number_word sides.across n.across_near in
     let P : ℤ → Type 0 = λ v. unsigned_abs v ≤ 2 ^ 52 in
     boxed_by scale layer along across centre direction sides edges false across along (word sides.across) (word sides.along) k
     (negated t (is_zero (direction_or_east direction).y) false (u ∙ k.upright) e) refl (wc ∙ k.across_is) (wa ∙ k.along_is) k.some_across k.some_along
@@ -201,8 +193,8 @@ pub boxed_flat : (scale : Scale) (layer : Layer) (along across : ℕ) (centre : 
     → edges ≡ centred_edges sides.centre (word sides.along) (word sides.across) → Boxed scale layer along across centre direction edges
 boxed_flat scale layer along across centre direction sides edges t c n u e f =
     let k = told scale layer along across centre direction sides c in
-    let wa = word_same sides.along n.along_near in
-    let wc = word_same sides.across n.across_near in
+    let wa = number_word sides.along n.along_near in
+    let wc = number_word sides.across n.across_near in
     let P : ℤ → Type 0 = λ v. unsigned_abs v ≤ 2 ^ 52 in
     boxed_by scale layer along across centre direction sides edges true along across (word sides.along) (word sides.across) k
     (negated t (is_zero (direction_or_east direction).y) true (u ∙ k.upright) e) refl (wa ∙ k.along_is) (wc ∙ k.across_is) k.some_along k.some_across

@@ -23,7 +23,7 @@ use Rattle.cif_figures.specs.Figures.{CommandOf, Leads, IsNumberFor}
 use Rattle.cif_figures.specs.Openings.{opened_state, scale_by}
 use Rattle.cif_figures.proofs.ByKind.{PartsLaw, is_opening, parts_of, spelled_of}
 use Rattle.cif_figures.proofs.Simple.{leads_by}
-use Rattle.cif_figures.proofs.Words.{word, near_word}
+use Rattle.cif_figures.proofs.Words.{word, number_word}
 
 -- ---- a number and what stands for it
 
@@ -41,7 +41,7 @@ great_abs (negsuc n) (inl g) = absurd (omega (arith, ints, g))
 great_abs (negsuc n) (inr g) = omega (arith, ints, g)
 
 pub stands_word : (m : ℕ) (z v : ℤ) → StandsFor m z v → word v ≡ v
-stands_word m z v s = near_word v (let n = s.near in omega (arith, n))
+stands_word m z v s = number_word v s.near
 
 pub number_for : (m n : ℕ) (v : ℤ) → StandsFor m (pos n) v → IsNumberFor n (unsigned_abs v)
 number_for m n v s = record { exact = λ l. ap unsigned_abs (s.exact (not_great n l)); great = λ l. great_abs v (s.great (great_nat n l)) }

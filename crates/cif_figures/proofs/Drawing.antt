@@ -22,7 +22,7 @@ use Rattle.cif_figures.proofs.ByKind.{PartsLaw, BoxParts, is_box, parts_of}
 use Rattle.cif_figures.proofs.Simple.{least_there, leads_by}
 
 -- a state with an open definition of this scale, where this layer is set
-pub scaled_state : CifScale → Option Layer → CifState
+abbrev pub scaled_state : CifScale → Option Layer → CifState
 scaled_state scale layer = record {
   symbols = [];
   opening = Some (record { symbol = record { number = 0; boxes = []; chain = 0 }; scale = scale; outer = None });
