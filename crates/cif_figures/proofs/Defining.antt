@@ -155,9 +155,6 @@ defined m n scale opening found again nested bytes h sp none e =
         let P : CifScale → Type 0 = λ v. ((IsTooGreat (pos v.times) → ⊥) × (IsTooGreat (pos v.per) → ⊥)) × ((v.times ≢ 0) × (v.per ≢ 0)) in
         subst P f ((λ i. g (inr (inl i)), λ i. g (inr (inr (inl i)))), (l.0, l.1))
 
-same_symbol : (n k : ℕ) → n ≡ k → ◌≡◌ {A = CifSymbol} (record { number = n; boxes = []; chain = 0 }) (record { number = k; boxes = []; chain = 0 })
-same_symbol n k e = ap (λ (v : ℕ). record { number = v; boxes = []; chain = 0 }) e
-
 -- the state that it leads to
 pub opening_leads : (s : CifState) (c : CifCommand) (n number : ℕ) (scale : Option CifScale) (found : CifScale) (r : Option CifCode) → c ≡ Opens n scale → r ≡ None
     → IsLeastCode s (Opens n scale) r → number ≡ n → found ≡ scale_or_one scale → Leads s c (λ place. opened_state s number found)

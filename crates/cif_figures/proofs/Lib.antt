@@ -9,3 +9,5 @@ pub mod Drawing
 pub mod Scaling
 pub mod PolygonPoints
 pub mod Words
+pub mod Stepping
+pub mod Calling

@@ -67,13 +67,7 @@ pub fn steps_called(
     parts_stand();
     let (number, from) = number_here(text, behind_letters(text, first, 1), scale.grid());
     let moves = moves_checks(text, from, scale);
-    match call_code(
-        scale,
-        number,
-        moves,
-        is_unknown(chain),
-        is_deep(chain),
-    ) {
+    match call_code(scale, number, moves, is_unknown(chain), is_deep(chain)) {
         Some(code) => Err(FigureFault::Meets(code)),
         None => Ok(steps(alloc, text, from, scale)?),
     }
@@ -128,8 +122,8 @@ fn steps(alloc: Global, text: &[u8], at: usize, scale: Scale) -> Result<Vec<Step
 fn step_of(scale: Scale, written: Move) -> Step
     requires scale { IsScale scale }
     requires drawn { IsDrawnMove (ratio scale) written }
-    ensures step { (divisor : ℕ) (move : CifMove) → MoveStands divisor move written → (SomeIs IsTooGreat (flat_map part_numbers (move_parts move)) → ⊥)
-        → IsStepOf (ratio scale) move result }
+    ensures step { (divisor : ℕ) (move : CifMove) → MoveStands divisor move written
+        → (SomeIs IsTooGreat (flat_map part_numbers (move_parts move)) → ⊥) → IsStepOf (ratio scale) move result }
     ensures near { IsStep result }
 {
     match written {
