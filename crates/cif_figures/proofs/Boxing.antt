@@ -1,22 +1,25 @@
 -- Boxes that meet no code.
-use Rattle.std.proofs.Common.{◌≡◌, ◌⊎◌, inl, inr, ℕ, zero, suc, ◌^◌, ◌≤◌, ◌<◌, Bool, true, false, cond, not, ℤ, pos, negsuc, neg_ℤ, ◌+ℤ◌, ◌-ℤ◌, ◌*ℤ◌, ◌<ℤ◌, ◌≤ℤ◌, List, [], ◌∷◌, map, flat_map, Option, Some, None, refl, sym, ◌∙◌, ap, subst, arith}
+use Rattle.std.proofs.Common.{◌≡◌, inl, inr, ℕ, ◌^◌, ◌≤◌, ◌<◌, Bool, true, false, cond, not, ℤ, pos, negsuc, neg_ℤ, ◌+ℤ◌, ◌-ℤ◌, ◌*ℤ◌, ◌<ℤ◌, ◌≤ℤ◌, List, [], ◌∷◌, map, flat_map, Option, Some, None, refl, sym, ◌∙◌, ap, subst, arith}
 use Rattle.std.specs.Int.RustNames.{unsigned_abs}
+use Rattle.std.proofs.Math.Nat.{pos_of_ne-zero}
+use Rattle.std.proofs.lemmas.Bool.{true_from_ne_false}
 use Rattle.std.proofs.lemmas.Int.{ints}
 use Rattle.geom.specs.declared.layer.Layer.{Layer}
 use Rattle.geom.specs.declared.point.Point.{Point}
 use Rattle.geom.specs.declared.cif_code.CifCode.TheVariants.{C7, C8, C9}
 use Rattle.geom.specs.CifCommands.{CifScale, DrawsBox, command_parts}
 use Rattle.geom.specs.CifShapes.{Outline, is_zero, is_along_axis, outlined_box}
-use Rattle.geom.specs.CifDrawings.{CifState, scale_of, direction_or_east, centred_outline, box_outlines, scaled}
-use Rattle.geom.specs.CifCodes.{SomeIs, IsTooGreat, IsOffGrid, IsFarOff, MeetsCode, part_numbers, command_distances, outline_distances}
+use Rattle.geom.specs.CifDrawings.{direction_or_east, centred_outline, box_outlines, scaled}
+use Rattle.geom.specs.CifCodes.{SomeIs, IsTooGreat, IsOffGrid, IsFarOff, part_numbers, outline_distances}
 use Rattle.cif_values.specs.declared.boxes.Sides.{Sides}
-use Rattle.cif_values.specs.Values.{SidesStand, PointStands, DirectionStands, AreNearSides}
+use Rattle.cif_values.specs.Values.{DirectionStands, AreNearSides}
 use Rattle.cif_codes.specs.declared.scale.Scale.{Scale}
 use Rattle.cif_codes.specs.declared.edges.Edges.{Edges}
 use Rattle.cif_codes.specs.Scales.{ratio, grid_of}
 use Rattle.cif_figures.specs.Boxes.{IsClearBox, is_upright, centred_edges}
 use Rattle.cif_figures.specs.Rectangles.{outline_of, IsDrawn}
 use Rattle.cif_figures.proofs.Clear.{drawn_edge}
+use Rattle.cif_figures.proofs.Scaling.{same_point}
 use Rattle.cif_figures.proofs.Words.{word, number_word}
 
 -- ---- what no code says
@@ -32,17 +35,6 @@ pub record Told (scale : Scale) (along across : ℕ) (centre : Point) (direction
   pub upright : is_upright sides.direction ≡ not (is_zero (direction_or_east direction).y)
   pub on_grid : SomeIs (IsOffGrid (ratio scale)) (flat_map outline_distances (box_outlines along across centre (direction_or_east direction))) → ⊥
   pub not_far : SomeIs (IsFarOff (ratio scale)) (flat_map outline_distances (box_outlines along across centre (direction_or_east direction))) → ⊥
-
-same_point : (p q : Point) → p.x ≡ q.x → p.y ≡ q.y → p ≡ q
-same_point p q e f = λ i. record { x = e i; y = f i }
-
-positive : (n : ℕ) → (n ≡ 0 → ⊥) → 0 < n
-positive zero h = absurd (h refl)
-positive (suc n) h = omega arith
-
-surely : (t : Bool) → (t ≡ false → ⊥) → t ≡ true
-surely true h = refl
-surely false h = absurd (h refl)
 
 upright_is : (m : ℕ) (written found : Option Point) → DirectionStands m written found
     → ((p : Point) → written ≡ Some p → IsTooGreat p.y → ⊥) → is_upright found ≡ not (is_zero (direction_or_east written).y)
@@ -63,9 +55,9 @@ told scale layer along across centre direction sides h =
       along_is = h.stand.along_is.exact (λ g. none (inl g));
       across_is = h.stand.across_is.exact (λ g. none (inr (inl g)));
       centre_is = same_point sides.centre centre x y;
-      some_along = positive along (λ e. h.clear C9 (inl e));
-      some_across = positive across (λ e. h.clear C9 (inr (inl e)));
-      axis = surely (is_along_axis (direction_or_east direction).x (direction_or_east direction).y) (λ e. h.clear C9 (inr (inr e)));
+      some_along = pos_of_ne-zero (λ e. h.clear C9 (inl e));
+      some_across = pos_of_ne-zero (λ e. h.clear C9 (inr (inl e)));
+      axis = true_from_ne_false (is_along_axis (direction_or_east direction).x (direction_or_east direction).y) (λ e. h.clear C9 (inr (inr e)));
       upright = upright_is (grid_of scale) direction sides.direction h.stand.direction_is (λ p e g. none (great_direction p e g));
       on_grid = subst P h.scale_is (λ k. h.clear C7 k);
       not_far = subst Q h.scale_is (λ k. h.clear C8 (inr k));

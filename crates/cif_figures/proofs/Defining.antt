@@ -1,7 +1,8 @@
 -- Definitions that open.
-use Rattle.std.proofs.Common.{◌≡◌, ◌≢◌, ◌⊎◌, inl, inr, ℕ, zero, suc, ◌+◌, ◌-◌, ◌^◌, ◌≤◌, ◌<◌, ◌==◌, Bool, true, false, cond, ◌||◌, ℤ, pos, negsuc, List, [], ◌∷◌, flat_map, Option, Some, None, IsSome, is_some, refl, sym, ◌∙◌, ap, subst, arith}
+use Rattle.std.proofs.Common.{◌≡◌, ◌≢◌, inl, inr, ℕ, ◌+◌, ◌-◌, ◌^◌, ◌≤◌, ◌<◌, ◌==◌, Bool, true, false, cond, ◌||◌, ℤ, pos, negsuc, List, [], ◌∷◌, flat_map, Option, Some, None, IsSome, refl, sym, ◌∙◌, ap, subst, arith}
 use Rattle.std.specs.Bool.{Decides}
 use Rattle.std.specs.Int.RustNames.{unsigned_abs}
+use Rattle.std.proofs.Math.Nat.{pos_of_ne-zero}
 use Rattle.std.proofs.lemmas.Bool.{cases_lt}
 use Rattle.std.proofs.lemmas.Bool.Decides.{Decides-eqb}
 use Rattle.std.proofs.lemmas.Int.{ints}
@@ -9,8 +10,8 @@ use Rattle.geom.specs.declared.point.Point.{Point}
 use Rattle.geom.specs.declared.cif_code.CifCode.{CifCode}
 use Rattle.geom.specs.declared.cif_code.CifCode.TheVariants.{C8}
 use Rattle.geom.specs.CifCommands.{CifScale, CifCommand, Opens, command_parts, SpellsCommand, IsLegalCommand}
-use Rattle.geom.specs.CifCodes.{SomeIs, IsTooGreat, MeetsCode, part_numbers, is_defined}
-use Rattle.geom.specs.CifDrawings.{CifState, CifSymbol, CifOpening, scale_or_one}
+use Rattle.geom.specs.CifCodes.{SomeIs, IsTooGreat, part_numbers, is_defined}
+use Rattle.geom.specs.CifDrawings.{CifState, scale_or_one}
 use Rattle.cif_values.specs.declared.openings.Opening.{Opening}
 use Rattle.cif_values.specs.Numbers.{StandsFor}
 use Rattle.cif_values.specs.Values.{OpeningStands, ScaleStands}
@@ -92,10 +93,6 @@ none_great : (again nested : Bool) (n : ℕ) (scale : Option CifScale) → ((s :
     → IsLeastCode s (Opens n scale) None) → SomeIs IsTooGreat (flat_map part_numbers (command_parts (Opens n scale))) → ⊥
 none_great again nested n scale h g = h (flag_state again nested n) (flag_again again nested n) (flag_nested again nested n) C8 (inl g)
 
-positive : (n : ℕ) → n ≢ 0 → 0 < n
-positive zero h = absurd (h refl)
-positive (suc n) h = omega arith
-
 abs_exact : (m n : ℕ) (v : ℤ) → StandsFor m (pos n) v → (IsTooGreat (pos n) → ⊥) → unsigned_abs v ≡ n
 abs_exact m n v s h = ap unsigned_abs (s.exact h)
 
@@ -120,8 +117,8 @@ scale_found m (Some s) (Some q) found h e f =
     let b : found.per ≡ s.per = ap (λ (s : CifScale). s.per) e ∙ y in
     let c = few_nat s.times k.0.0 in
     let d = few_nat s.per k.0.1 in
-    let t = positive s.times k.1.0 in
-    let u = positive s.per k.1.1 in (
+    let t : 0 < s.times = pos_of_ne-zero k.1.0 in
+    let u : 0 < s.per = pos_of_ne-zero k.1.1 in (
       same_scale (ratio found) s a b,
       record { some_times = omega (arith, a, t); few_times = omega (arith, a, c); some_per = omega (arith, b, u); few_per = omega (arith, b, d) },
     )

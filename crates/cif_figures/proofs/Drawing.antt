@@ -1,6 +1,5 @@
 -- Shapes that are drawn.
 use Rattle.std.proofs.Common.{◌≡◌, ℕ, ◌-◌, List, [], ◌∷◌, map, Option, Some, None, IfSome, refl, sym, ◌∙◌, subst}
-use Rattle.rx_text.specs.declared.place.Place.{Place}
 use Rattle.geom.specs.declared.layer.Layer.{Layer}
 use Rattle.geom.specs.declared.point.Point.{Point}
 use Rattle.geom.specs.declared.cif_code.CifCode.{CifCode}
@@ -16,7 +15,7 @@ use Rattle.cif_kinds.specs.declared.kinds.CommandKind.TheVariants as kind
 use Rattle.cif_codes.specs.declared.scale.Scale.{Scale}
 use Rattle.cif_codes.specs.Scales.{ratio, grid_of}
 use Rattle.cif_codes.specs.Least.{IsLeastCode}
-use Rattle.cif_figures.specs.Figures.{CommandOf, command_of, Leads, Draws}
+use Rattle.cif_figures.specs.Figures.{CommandOf, Leads, Draws}
 use Rattle.cif_figures.specs.Boxes.{IsClearBox}
 use Rattle.cif_figures.proofs.ByKind.{PartsLaw, BoxParts, is_box, parts_of}
 use Rattle.cif_figures.proofs.Simple.{least_there, leads_by}

@@ -1,5 +1,5 @@
 -- Where commands stand.
-use Rattle.std.proofs.Common.{ℕ, ◌-◌, ◌<◌, ◌≤◌, List, length, arith}
+use Rattle.std.proofs.Common.{ℕ, ◌<◌, ◌≤◌, List, length, arith}
 use Rattle.cif_kinds.specs.declared.kinds.CommandKind.{CommandKind}
 use Rattle.cif_figures.specs.Figures.{CommandOf}
 

@@ -1,16 +1,16 @@
 -- The points of polygons, one after another.
-use Rattle.std.proofs.Common.{◌≡◌, inl, inr, ℕ, ◌-◌, ◌≤◌, ◌^◌, Bool, true, false, ℤ, pos, ◌*ℤ◌, List, [], ◌∷◌, ◌++◌, map, flat_map, Option, Some, None, refl, sym, ◌∙◌, ap, subst, append_assoc}
+use Rattle.std.proofs.Common.{◌≡◌, inl, inr, ℕ, ◌-◌, true, ℤ, pos, ◌*ℤ◌, List, [], ◌∷◌, ◌++◌, flat_map, Option, Some, None, refl, sym, ◌∙◌, ap, subst, append_assoc}
+use Rattle.std.proofs.lemmas.Bool.{true_from_ne_false}
 use Rattle.std.proofs.lemmas.List.{append-nil}
-use Rattle.rx_text.specs.declared.place.Place.{Place}
 use Rattle.geom.specs.declared.layer.Layer.{Layer}
 use Rattle.geom.specs.declared.point.Point.{Point}
 use Rattle.geom.specs.declared.cif_code.CifCode.{CifCode}
 use Rattle.geom.specs.declared.cif_code.CifCode.TheVariants.{C3, C7, C8, C9}
 use Rattle.geom.specs.Squares.{BoxShape}
-use Rattle.geom.specs.CifCommands.{CifScale, CifCommand, CifPart, DrawsPolygon, Letters, point_parts, command_parts}
+use Rattle.geom.specs.CifCommands.{CifScale, CifCommand, DrawsPolygon, point_parts, command_parts}
 use Rattle.geom.specs.CifCodes.{part_numbers, point_distances}
 use Rattle.geom.specs.CifShapes.{ArePolygonBoxes, is_rectilinear}
-use Rattle.geom.specs.CifDrawings.{CifState, scale_of, scaled_point, drawn_in}
+use Rattle.geom.specs.CifDrawings.{CifState, scale_of, drawn_in}
 use Rattle.cif_shapes.specs.Polygons.{IsPolygon}
 use Rattle.cif_values.specs.Parts.{PartsAt}
 use Rattle.cif_values.specs.Values.{PointStands, IsNearPoint}
@@ -28,7 +28,7 @@ use Rattle.cif_figures.proofs.ByKind.{PartsLaw, is_polygon, parts_of}
 use Rattle.cif_figures.proofs.Simple.{least_there, leads_by}
 use Rattle.cif_figures.proofs.Clear.{IsClear, clear_front, clear_behind, drawn_twice}
 use Rattle.cif_figures.proofs.Drawing.{scaled_state, shaped}
-use Rattle.cif_figures.proofs.Scaling.{scaled_polygon, scaled_points_are}
+use Rattle.cif_figures.proofs.Scaling.{same_point, scaled_polygon, scaled_points_are}
 
 -- the numbers of points
 abbrev pub point_numbers : List Point → List ℤ
@@ -110,9 +110,6 @@ pub same_stands : (divisor : ℕ) (scale : Scale) (p q r : Point) → IsClear (r
 same_stands divisor scale p q r c s h =
     let P : Point → Type 0 = λ v. IsScaledPoint scale v r in
     subst P (same_point q p (s.0.exact (λ g. c.few (inl g))) (s.1.exact (λ g. c.few (inr (inl g))))) h
-  where
-    same_point : (p q : Point) → p.x ≡ q.x → p.y ≡ q.y → p ≡ q
-    same_point p q e f = λ i. record { x = e i; y = f i }
 
 -- ---- polygons
 
@@ -164,10 +161,6 @@ pub polygon_bare : (c : CifCommand) (text : List ℕ) (at : ℕ) (scale : Scale)
 polygon_bare c text at scale layer corners r h cl pl e f =
     polygon_code_is (scaled_state (ratio scale) None) text at h.points h.stop scale layer corners r None h.parts cl pl e refl (sym f) C3 refl
 
-surely : (t : Bool) → (t ≡ false → ⊥) → t ≡ true
-surely true h = refl
-surely false h = absurd (h refl)
-
 -- the points of a polygon that meets no code
 pub record PolygonClear (text : List ℕ) (at : ℕ) (scale : Scale) (points : List Point) : Type 0 where
   pub points_clear : AreClearPoints text at (ratio scale) points
@@ -180,7 +173,7 @@ polygon_clear c text at scale layer corners r h cl pl e =
     polygon_code_is (scaled_state (ratio scale) layer) text at h.points h.stop scale layer corners r None h.parts cl pl e refl refl in
     record {
       points_clear = record { stop = h.stop; parts = h.parts; few = λ g. n C8 (inl g); on_grid = λ g. n C7 g; not_far = λ g. n C8 (inr g) };
-      rectilinear = surely (is_rectilinear h.points) (λ g. n C9 g);
+      rectilinear = true_from_ne_false (is_rectilinear h.points) (λ g. n C9 g);
     }
 
 pub polygon_is : (c : CifCommand) (text : List ℕ) (at : ℕ) (scale : Scale) (layer : Option Layer) (corners : Corners) (r : Option CifCode) (found : List Point)
@@ -200,8 +193,8 @@ polygon_leads s c text at scale given layer corners r found boxes h cl pl e g f 
     leads_by s c (DrawsPolygon h.points) None (λ place. drawn_in s place boxes 0 s.opening) h.is refl
     (polygon_code_is s text at h.points h.stop scale given corners r None h.parts cl pl e d.scale_is d.layer_is)
     (λ place. (
-    boxes,
-    shaped s (DrawsPolygon h.points) (ratio scale) layer boxes d.scale_is (d.layer_is ∙ g)
-    (subst P (scaled_points_are scale h.points found (f h.points k.points_clear)) b),
-    refl,
-  ))
+      boxes,
+      shaped s (DrawsPolygon h.points) (ratio scale) layer boxes d.scale_is (d.layer_is ∙ g)
+          (subst P (scaled_points_are scale h.points found (f h.points k.points_clear)) b),
+      refl,
+    ))

@@ -1,5 +1,5 @@
 -- Points in λ.
-use Rattle.std.proofs.Common.{◌≡◌, inl, inr, ℕ, zero, suc, ◌*◌, ◌^◌, ◌≤◌, ◌<◌, nat_le, Bool, true, false, not, ◌&&◌, if◌then◌else◌, ℤ, pos, negsuc, ◌-ℤ◌, ◌*ℤ◌, ◌<ℤ◌, ◌≤ℤ◌, List, [], ◌∷◌, ◌++◌, length, map, refl, sym, ◌∙◌, ap, subst, arith}
+use Rattle.std.proofs.Common.{◌≡◌, inl, inr, ℕ, zero, suc, ◌^◌, ◌≤◌, nat_le, Bool, true, false, not, ◌&&◌, if◌then◌else◌, ℤ, pos, negsuc, ◌-ℤ◌, ◌*ℤ◌, ◌<ℤ◌, List, [], ◌∷◌, ◌++◌, length, map, refl, sym, ◌∙◌, ap, subst, arith}
 use mir.Syntax.{w64}
 use mir.Val.{to_z, of_z}
 use Rattle.std.specs.Int.RustNames.{FitsSigned, unsigned_abs}
@@ -8,7 +8,7 @@ use Rattle.std.proofs.lemmas.Int.{ints, by_lt_z, to_z-of_z, fits_signed_from_abs
 use Rattle.geom.specs.declared.point.Point.{Point}
 use Rattle.geom.specs.Rows.{Among}
 use Rattle.geom.specs.Turns.{IsReachable}
-use Rattle.geom.specs.CifShapes.{Segment, segments_from, polygon_sides, is_zero, is_along_axis, is_axis_side, is_rectilinear}
+use Rattle.geom.specs.CifShapes.{segments_from, polygon_sides, is_zero, is_axis_side, is_rectilinear}
 use Rattle.geom.specs.CifDrawings.{scaled, scaled_point}
 use Rattle.cif_shapes.specs.Polygons.{IsPolygon}
 use Rattle.cif_codes.specs.declared.scale.Scale.{Scale}
@@ -127,7 +127,7 @@ pub scaled_polygon : (scale : Scale) (ps qs : List Point) → IsScale scale → 
 scaled_polygon scale ps qs s h e =
     record { rectilinear = rectilinear_same scale ps qs s h ∙ e; across = reach_x scale ps qs h; upward = reach_y scale ps qs h }
 
-same_point : (p q : Point) → p.x ≡ q.x → p.y ≡ q.y → p ≡ q
+pub same_point : (p q : Point) → p.x ≡ q.x → p.y ≡ q.y → p ≡ q
 same_point p q e f = λ i. record { x = e i; y = f i }
 
 pub scaled_points_are : (scale : Scale) (ps qs : List Point) → AreScaledPoints scale ps qs → qs ≡ map (scaled_point (ratio scale)) ps

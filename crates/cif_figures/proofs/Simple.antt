@@ -1,16 +1,15 @@
 -- Layers, definitions and labels.
-use Rattle.std.proofs.Common.{◌≡◌, ℕ, true, List, Option, Some, None, IsSome, refl, sym, ◌∙◌, ap, subst}
+use Rattle.std.proofs.Common.{◌≡◌, ℕ, List, Option, Some, None, refl, sym, ◌∙◌, ap, subst}
 use Rattle.geom.specs.declared.layer.Layer.{Layer}
 use Rattle.geom.specs.declared.chip.Label.{Label}
 use Rattle.geom.specs.declared.cif_code.CifCode.{CifCode}
 use Rattle.rx_text.specs.declared.place.Place.{Place}
-use Rattle.geom.specs.CifCommands.{CifScale, CifCommand, Opens, Closes, SetsLayer, Extension}
+use Rattle.geom.specs.CifCommands.{CifCommand, Closes, SetsLayer, Extension}
 use Rattle.geom.specs.CifLabels.{layer_named}
-use Rattle.geom.specs.CifDrawings.{CifState, scale_or_one, closed_state, CommandLeads}
+use Rattle.geom.specs.CifDrawings.{CifState, closed_state, CommandLeads}
 use Rattle.cif_codes.specs.Least.{IsLeastCode}
 use Rattle.cif_labels.specs.Labelled.{state_with}
 use Rattle.cif_figures.specs.Figures.{Leads}
-use Rattle.cif_figures.specs.Openings.{opened_state}
 
 -- the same command, and the same answer
 pub least_there : (s : CifState) (c d : CifCommand) (r t : Option CifCode) → c ≡ d → r ≡ t → IsLeastCode s d r → IsLeastCode s c t

@@ -1,5 +1,5 @@
 -- Rectangles by twice their edges in units.
-use Rattle.std.specs.Prelude.{ℕ, ◌^◌, ◌≤◌, ℤ, ◌<ℤ◌}
+use Rattle.std.specs.Prelude.{◌^◌, ◌≤◌, ℤ, ◌<ℤ◌}
 use Rattle.std.specs.Int.RustNames.{unsigned_abs}
 use Rattle.geom.specs.CifCommands.{CifScale}
 use Rattle.geom.specs.CifCodes.{IsOffGrid, IsFarOff}

@@ -1,5 +1,5 @@
 -- The close.
-use Rattle.std.proofs.Common.{Some, refl}
+use Rattle.std.proofs.Common.{Some}
 use Rattle.geom.specs.CifCommands.{Closes}
 use Rattle.cif_figures.proofs.ByKind.{is_close}
 use Rattle.cif_figures.proofs.Simple.{close_leads, least_there}

@@ -1,5 +1,5 @@
 -- The number of the definition.
-use Rattle.std.proofs.Common.{ℕ, ◌≡◌, ◌-◌, pos, sym, ◌∙◌, ap, subst}
+use Rattle.std.proofs.Common.{ℕ, ◌-◌, pos, sym, ◌∙◌, ap, subst}
 use Rattle.std.specs.Int.RustNames.{unsigned_abs}
 use Rattle.geom.specs.CifCommands.{Opens}
 use Rattle.cif_kinds.specs.declared.kinds.CommandKind.TheVariants as kind
@@ -15,6 +15,6 @@ returns c = λ end k.
     let s = c.opening_here.ensures (end - 1) o.0 o.1 p in
     let P : ℕ → Type 0 = λ n. IsNumberFor n c.unsigned_abs.result in
     let Q : ℕ → Type 0 = λ v. IsNumberFor o.0 v in
-    subst P (sym (ap symbol_in o.2)) 
+    subst P (sym (ap symbol_in o.2))
     (subst Q (sym (c.unsigned_abs.ensures.value ∙ ap unsigned_abs (stands_word 400 (pos o.0) c.opening_here.result.number s.number_is)))
     (number_for 400 o.0 c.opening_here.result.number s.number_is))

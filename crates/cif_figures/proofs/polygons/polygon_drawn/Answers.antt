@@ -11,7 +11,7 @@ scaled_points-requires-clause-clear c =
     (λ stop points. c.behind_letters-at.ensures.parts stop (codes "P") (flat_map point_parts points) refl) in (
       h.points,
       (polygon_clear k.1.stands.here.command c.args.text.now c.behind_letters-at.result c.args.scale c.args.layer c.corners_here-corners.result c.polygon_code.result h
-      c.corners_here-corners.ensures c.polygon_code.ensures c.in-None.is).points_clear,
+          c.corners_here-corners.ensures c.polygon_code.ensures c.in-None.is).points_clear,
     )
 
 pub returns-in-Some-clause-fault : goal.returns-in-Some-clause-fault

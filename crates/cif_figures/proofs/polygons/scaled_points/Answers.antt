@@ -1,5 +1,5 @@
 -- One point after another.
-use Rattle.std.proofs.Common.{List, [], flat_map, sym, subst, arith}
+use Rattle.std.proofs.Common.{List, flat_map, sym, subst, arith}
 use Rattle.geom.specs.declared.point.Point.{Point}
 use Rattle.geom.specs.CifCommands.{point_parts}
 use Rattle.cif_figures.proofs.PolygonPoints.{PointsLeft, points_begin, points_next, points_more, points_end, next_x, next_y, same_stands}

@@ -1,5 +1,5 @@
 -- The edges, from machine words.
-use Rattle.std.proofs.Common.{◌≡◌, ◌*◌, ℤ, pos, ◌*ℤ◌, ◌<ℤ◌, sym, ◌∙◌, ap, subst, arith}
+use Rattle.std.proofs.Common.{◌≡◌, ℤ, pos, ◌*ℤ◌, ◌<ℤ◌, sym, ◌∙◌, ap, subst, arith}
 use Rattle.geom.specs.Squares.{IsSide}
 use Rattle.geom.specs.Turns.{IsReachable}
 use Rattle.geom.specs.CifCommands.{CifScale}
