@@ -11,3 +11,5 @@ pub mod PolygonPoints
 pub mod Words
 pub mod Stepping
 pub mod Calling
+pub mod WirePoints
+pub mod Wiring

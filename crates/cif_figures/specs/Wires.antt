@@ -1,5 +1,5 @@
 -- Wires that meet no code.
-use Rattle.std.specs.Prelude.{◌≡◌, ◌≢◌, ℕ, List, [], flat_map}
+use Rattle.std.specs.Prelude.{◌≢◌, ℕ, List, [], flat_map}
 use Rattle.geom.specs.declared.point.Point.{Point}
 use Rattle.geom.specs.CifCommands.{CifScale, DrawsWire, command_parts}
 use Rattle.geom.specs.CifCodes.{SomeIs, IsTooGreat, IsOffGrid, IsFarOff, part_numbers, command_distances}
