@@ -49,8 +49,10 @@ told scale layer along across centre direction sides h =
     let none : SomeIs IsTooGreat (flat_map part_numbers (command_parts (DrawsBox along across centre direction))) → ⊥ = λ g. h.clear C8 (inl g) in
     let x = h.stand.centre_is.0.exact (λ g. none (inr (inr (inl g)))) in
     let y = h.stand.centre_is.1.exact (λ g. none (inr (inr (inr (inl g))))) in
-    let P : CifScale → Type 0 = λ s. SomeIs (IsOffGrid s) (flat_map outline_distances (box_outlines along across centre (direction_or_east direction))) → ⊥ in
-    let Q : CifScale → Type 0 = λ s. SomeIs (IsFarOff s) (flat_map outline_distances (box_outlines along across centre (direction_or_east direction))) → ⊥ in
+    let P : CifScale → Type 0 = λ s. SomeIs (IsOffGrid s) (flat_map outline_distances (box_outlines along across centre
+    (direction_or_east direction))) → ⊥ in
+    let Q : CifScale → Type 0 = λ s. SomeIs (IsFarOff s) (flat_map outline_distances (box_outlines along across centre
+    (direction_or_east direction))) → ⊥ in
     record {
       along_is = h.stand.along_is.exact (λ g. none (inl g));
       across_is = h.stand.across_is.exact (λ g. none (inr (inl g)));
@@ -63,7 +65,8 @@ told scale layer along across centre direction sides h =
       not_far = subst Q h.scale_is (λ k. h.clear C8 (inr k));
     }
   where
-    great_direction : (p : Point) → direction ≡ Some p → IsTooGreat p.y → SomeIs IsTooGreat (flat_map part_numbers (command_parts (DrawsBox along across centre direction)))
+    great_direction : (p : Point) → direction ≡ Some p → IsTooGreat p.y
+        → SomeIs IsTooGreat (flat_map part_numbers (command_parts (DrawsBox along across centre direction)))
     great_direction p e g =
         let R : Option Point → Type 0 = λ d. SomeIs IsTooGreat (flat_map part_numbers (command_parts (DrawsBox along across centre d))) in
         subst R (sym e) (inr (inr (inr (inr (inr (inl g))))))
@@ -97,9 +100,11 @@ upper_near u v h k =
     bounds_abs (pos 2 *ℤ u +ℤ v) (2 ^ 55) (omega (arith, ints, a.0, a.1, b.0, b.1)) (omega (arith, ints, a.0, a.1, b.0, b.1))
 
 -- a rectangle by its centre and its sides, which are positive
-pub drawn_centred : (scale : CifScale) (p : Point) (w h : ℕ) (centre : Point) (wide high : ℤ) → centre ≡ p → wide ≡ pos w → high ≡ pos h → 0 < w → 0 < h
+pub drawn_centred : (scale : CifScale) (p : Point) (w h : ℕ) (centre : Point) (wide high : ℤ) → centre ≡ p → wide ≡ pos w → high ≡ pos h → 0 < w
+    → 0 < h
     → unsigned_abs centre.x ≤ 2 ^ 52 → unsigned_abs centre.y ≤ 2 ^ 52 → unsigned_abs wide ≤ 2 ^ 52 → unsigned_abs high ≤ 2 ^ 52
-    → (SomeIs (IsOffGrid scale) (outline_distances (centred_outline p w h)) → ⊥) → (SomeIs (IsFarOff scale) (outline_distances (centred_outline p w h)) → ⊥)
+    → (SomeIs (IsOffGrid scale) (outline_distances (centred_outline p w h)) → ⊥)
+    → (SomeIs (IsFarOff scale) (outline_distances (centred_outline p w h)) → ⊥)
     → IsDrawn scale (centred_edges centre wide high)
 drawn_centred scale p w h centre wide high e f g sw sh nx ny nw nh a b =
     let x : centre.x ≡ p.x = ap (λ (q : Point). q.x) e in
@@ -147,9 +152,11 @@ negated t true false e f = let y : false ≡ true = sym e ∙ f in absurd cc
 negated t false true e f = let y : true ≡ false = sym e ∙ f in absurd cc
 negated t false false e f = refl
 
-boxed_by : (scale : Scale) (layer : Layer) (along across : ℕ) (centre : Point) (direction : Option Point) (sides : Sides) (edges : Edges) (t : Bool) (w h : ℕ) (wide high : ℤ)
+boxed_by : (scale : Scale) (layer : Layer) (along across : ℕ) (centre : Point) (direction : Option Point) (sides : Sides) (edges : Edges)
+    (t : Bool) (w h : ℕ) (wide high : ℤ)
     → Told scale along across centre direction sides → is_zero (direction_or_east direction).y ≡ t
-    → cond t (centred_outline centre along across) (centred_outline centre across along) ≡ centred_outline centre w h → wide ≡ pos w → high ≡ pos h → 0 < w → 0 < h
+    → cond t (centred_outline centre along across) (centred_outline centre across along) ≡ centred_outline centre w h → wide ≡ pos w
+    → high ≡ pos h → 0 < w → 0 < h
     → unsigned_abs sides.centre.x ≤ 2 ^ 52 → unsigned_abs sides.centre.y ≤ 2 ^ 52 → unsigned_abs wide ≤ 2 ^ 52 → unsigned_abs high ≤ 2 ^ 52
     → edges ≡ centred_edges sides.centre wide high → Boxed scale layer along across centre direction edges
 boxed_by scale layer along across centre direction sides edges t w h wide high k z o f g sw sh nx ny nw nh e =
@@ -161,14 +168,16 @@ boxed_by scale layer along across centre direction sides edges t w h wide high k
     let R : Edges → Type 0 = λ v. IsDrawn (ratio scale) v in
     record {
       drawn = subst R (sym e)
-          (drawn_centred (ratio scale) centre w h sides.centre wide high k.centre_is f g sw sh nx ny nw nh (subst P is k.on_grid) (subst Q is k.not_far));
+          (drawn_centred (ratio scale) centre w h sides.centre wide high k.centre_is f g sw sh nx ny nw nh (subst P is k.on_grid)
+          (subst Q is k.not_far));
       box =
           ap (λ (v : Edges). outlined_box layer (scaled (ratio scale)) (outline_of v) ∷ []) e
           ∙ (ap (λ (v : Outline). outlined_box layer (scaled (ratio scale)) v ∷ []) (centred_is centre w h sides.centre wide high k.centre_is f g)
           ∙ ap (map (outlined_box layer (scaled (ratio scale)))) (sym is));
     }
 
-pub boxed_upright : (scale : Scale) (layer : Layer) (along across : ℕ) (centre : Point) (direction : Option Point) (sides : Sides) (edges : Edges) (t : Bool)
+pub boxed_upright : (scale : Scale) (layer : Layer) (along across : ℕ) (centre : Point) (direction : Option Point) (sides : Sides)
+    (edges : Edges) (t : Bool)
     → IsClearBox scale layer along across centre direction sides → AreNearSides sides → t ≡ is_upright sides.direction → t ≡ true
     → edges ≡ centred_edges sides.centre (word sides.across) (word sides.along) → Boxed scale layer along across centre direction edges
 boxed_upright scale layer along across centre direction sides edges t c n u e f =
@@ -177,10 +186,12 @@ boxed_upright scale layer along across centre direction sides edges t c n u e f 
     let wc = number_word sides.across n.across_near in
     let P : ℤ → Type 0 = λ v. unsigned_abs v ≤ 2 ^ 52 in
     boxed_by scale layer along across centre direction sides edges false across along (word sides.across) (word sides.along) k
-    (negated t (is_zero (direction_or_east direction).y) false (u ∙ k.upright) e) refl (wc ∙ k.across_is) (wa ∙ k.along_is) k.some_across k.some_along
+    (negated t (is_zero (direction_or_east direction).y) false (u ∙ k.upright) e) refl (wc ∙ k.across_is) (wa ∙ k.along_is) k.some_across
+    k.some_along
     n.centre_near.0 n.centre_near.1 (subst P (sym wc) n.across_near) (subst P (sym wa) n.along_near) f
 
-pub boxed_flat : (scale : Scale) (layer : Layer) (along across : ℕ) (centre : Point) (direction : Option Point) (sides : Sides) (edges : Edges) (t : Bool)
+pub boxed_flat : (scale : Scale) (layer : Layer) (along across : ℕ) (centre : Point) (direction : Option Point) (sides : Sides) (edges : Edges)
+    (t : Bool)
     → IsClearBox scale layer along across centre direction sides → AreNearSides sides → t ≡ is_upright sides.direction → t ≡ false
     → edges ≡ centred_edges sides.centre (word sides.along) (word sides.across) → Boxed scale layer along across centre direction edges
 boxed_flat scale layer along across centre direction sides edges t c n u e f =

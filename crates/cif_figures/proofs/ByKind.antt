@@ -60,7 +60,8 @@ PartsLaw =
     (text : List ℕ) (from first end : ℕ) (h : IsCommandAt text from first end) → IsMadeOfParts h.here.command
     → PartsAt text first (end - 1) (command_parts h.here.command)
 
-pub parts_of : (text : List ℕ) (first end : ℕ) (k : CommandKind) (c : CommandOf text first end k) (d : CifCommand) → c.stands.here.command ≡ d → IsMadeOfParts d → PartsLaw
+pub parts_of : (text : List ℕ) (first end : ℕ) (k : CommandKind) (c : CommandOf text first end k) (d : CifCommand) → c.stands.here.command ≡ d
+    → IsMadeOfParts d → PartsLaw
     → PartsAt text first (end - 1) (command_parts d)
 parts_of text first end k c d e m law =
     let M : CifCommand → Type 0 = λ x. IsMadeOfParts x in

@@ -186,7 +186,8 @@ abbrev pub called_state : CifState → ℕ → List Step → Place → CifState
 called_state s n steps place = drawn_in s place (stepped_boxes steps (part_boxes (symbol_of s n))) (chain_or_none (symbol_of s n)) s.opening
 
 pub call_leads : (s : CifState) (c : CifCommand) (text : List ℕ) (at : ℕ) (scale : Scale) (chain : Option ℕ) (steps : List Step)
-    → CallHere c text at scale chain None → ((moves : List CifMove) → AreClearMoves text at (ratio scale) moves → AreStepsOf (ratio scale) moves steps)
+    → CallHere c text at scale chain None → ((moves : List CifMove) → AreClearMoves text at (ratio scale) moves
+    → AreStepsOf (ratio scale) moves steps)
     → scale_of s.opening ≡ ratio scale → chain ≡ part_chain (symbol_of s (symbol_in c)) → Leads s c (called_state s (symbol_in c) steps)
 call_leads s c text at scale chain steps h f e g =
     let k = f h.moves (call_moves c text at scale chain h) in

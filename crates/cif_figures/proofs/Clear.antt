@@ -36,14 +36,16 @@ clear_behind scale xs ys ds es h = record {
 }
 
 -- a distance that is found, for one that is on the grid and not far
-pub drawn_edge : (scale : CifScale) (z v : ℤ) → v ≡ z → unsigned_abs v ≤ 2 ^ 55 → (IsOffGrid scale z → ⊥) → (IsFarOff scale z → ⊥) → IsDrawnEdge scale v
+pub drawn_edge : (scale : CifScale) (z v : ℤ) → v ≡ z → unsigned_abs v ≤ 2 ^ 55 → (IsOffGrid scale z → ⊥) → (IsFarOff scale z → ⊥)
+    → IsDrawnEdge scale v
 drawn_edge scale z v e h a b =
     let P : ℤ → Type 0 = λ n. IsOffGrid scale n in
     let Q : ℤ → Type 0 = λ n. IsFarOff scale n in
     record { near = h; on_grid = λ k. a (subst P e k); not_far = λ k. b (subst Q e k) }
 
 -- twice a number that is found
-pub drawn_twice : (scale : CifScale) (z v : ℤ) → v ≡ z → unsigned_abs v ≤ 2 ^ 52 → (IsOffGrid scale (pos 2 *ℤ z) → ⊥) → (IsFarOff scale (pos 2 *ℤ z) → ⊥)
+pub drawn_twice : (scale : CifScale) (z v : ℤ) → v ≡ z → unsigned_abs v ≤ 2 ^ 52 → (IsOffGrid scale (pos 2 *ℤ z) → ⊥)
+    → (IsFarOff scale (pos 2 *ℤ z) → ⊥)
     → IsDrawnEdge scale (pos 2 *ℤ v)
 drawn_twice scale z v e h a b =
     drawn_edge scale (pos 2 *ℤ z) (pos 2 *ℤ v) (ap (λ (n : ℤ). pos 2 *ℤ n) e) (let m = unsigned_abs-mul (pos 2) v in omega (arith, m, h)) a b

@@ -55,7 +55,11 @@ few_nat n h = elim (cases_lt (2 ^ 40) n) [ inl l ↦ absurd (h (great_nat n l)) 
 abbrev flag_state : Bool → Bool → ℕ → CifState
 flag_state again nested n = record {
   symbols = cond again (record { number = n; boxes = []; chain = 0 } ∷ []) [];
-  opening = cond nested (Some (record { symbol = record { number = n + 1; boxes = []; chain = 0 }; scale = record { times = 1; per = 1 }; outer = None })) None;
+  opening = cond nested (Some (record {
+    symbol = record { number = n + 1; boxes = []; chain = 0 };
+    scale = record { times = 1; per = 1 };
+    outer = None;
+  })) None;
   layer = None;
   drawing = record { strokes = []; labels = [] };
 }
@@ -89,7 +93,8 @@ pub record Defined (n : ℕ) (scale : Option CifScale) (opening : Opening) (foun
   pub scale_is : ratio found ≡ scale_or_one scale
   pub in_range : IsScale found
 
-none_great : (again nested : Bool) (n : ℕ) (scale : Option CifScale) → ((s : CifState) → Decides again (is_defined s n ≡ true) → Decides nested (IsSome s.opening)
+none_great : (again nested : Bool) (n : ℕ) (scale : Option CifScale) → ((s : CifState) → Decides again (is_defined s n ≡ true)
+    → Decides nested (IsSome s.opening)
     → IsLeastCode s (Opens n scale) None) → SomeIs IsTooGreat (flat_map part_numbers (command_parts (Opens n scale))) → ⊥
 none_great again nested n scale h g = h (flag_state again nested n) (flag_again again nested n) (flag_nested again nested n) C8 (inl g)
 
@@ -100,7 +105,8 @@ same_scale : (a b : CifScale) → a.times ≡ b.times → a.per ≡ b.per → a 
 same_scale a b e f = λ i. record { times = e i; per = f i }
 
 -- the scale that is found stands for the one that is written
-scale_found : (m : ℕ) (scale : Option CifScale) (written : Option Point) (found : Scale) → ScaleStands m scale written → ratio found ≡ scale_by written
+scale_found : (m : ℕ) (scale : Option CifScale) (written : Option Point) (found : Scale) → ScaleStands m scale written
+    → ratio found ≡ scale_by written
     → ((s : CifScale) → scale ≡ Some s → ((IsTooGreat (pos s.times) → ⊥) × (IsTooGreat (pos s.per) → ⊥)) × ((s.times ≢ 0) × (s.per ≢ 0)))
     → (ratio found ≡ scale_or_one scale) × IsScale found
 scale_found m None None found h e f =
@@ -123,7 +129,8 @@ scale_found m (Some s) (Some q) found h e f =
       record { some_times = omega (arith, a, t); few_times = omega (arith, a, c); some_per = omega (arith, b, u); few_per = omega (arith, b, d) },
     )
 
-pub defined : (m n : ℕ) (scale : Option CifScale) (opening : Opening) (found : Scale) (again nested : Bool) (bytes : List ℕ) → OpeningStands m n scale opening
+pub defined : (m n : ℕ) (scale : Option CifScale) (opening : Opening) (found : Scale) (again nested : Bool) (bytes : List ℕ)
+    → OpeningStands m n scale opening
     → SpellsCommand (Opens n scale) bytes
     → ((s : CifState) → Decides again (is_defined s n ≡ true) → Decides nested (IsSome s.opening) → IsLeastCode s (Opens n scale) None)
     → ratio found ≡ scale_by opening.scale → Defined n scale opening found
@@ -131,7 +138,8 @@ defined m n scale opening found again nested bytes h sp none e =
     let g = none_great again nested n scale none in
     let k = scale_found m scale opening.scale found h.scale_is e (numbers scale g sp.0) in
     record {
-      number_is = ap unsigned_abs (stands_word m (pos n) opening.number h.number_is) ∙ abs_exact m n opening.number h.number_is (λ i. g (first scale i));
+      number_is = ap unsigned_abs (stands_word m (pos n) opening.number h.number_is) ∙ abs_exact m n opening.number h.number_is
+          (λ i. g (first scale i));
       few = few_nat n (λ i. g (first scale i));
       scale_is = k.0;
       in_range = k.1;
@@ -144,7 +152,8 @@ defined m n scale opening found again nested bytes h sp none e =
     inside : (t s : CifScale) → ◌≡◌ {A = Option CifScale} (Some t) (Some s) → t ≡ s
     inside t s e = cc
 
-    numbers : (scale : Option CifScale) → (SomeIs IsTooGreat (flat_map part_numbers (command_parts (Opens n scale))) → ⊥) → IsLegalCommand (Opens n scale)
+    numbers : (scale : Option CifScale) → (SomeIs IsTooGreat (flat_map part_numbers (command_parts (Opens n scale))) → ⊥)
+        → IsLegalCommand (Opens n scale)
         → (s : CifScale) → scale ≡ Some s → ((IsTooGreat (pos s.times) → ⊥) × (IsTooGreat (pos s.per) → ⊥)) × ((s.times ≢ 0) × (s.per ≢ 0))
     numbers None g l s e = absurd cc
     numbers (Some t) g l s e =
@@ -153,16 +162,20 @@ defined m n scale opening found again nested bytes h sp none e =
         subst P f ((λ i. g (inr (inl i)), λ i. g (inr (inr (inl i)))), (l.0, l.1))
 
 -- the state that it leads to
-pub opening_leads : (s : CifState) (c : CifCommand) (n number : ℕ) (scale : Option CifScale) (found : CifScale) (r : Option CifCode) → c ≡ Opens n scale → r ≡ None
+pub opening_leads : (s : CifState) (c : CifCommand) (n number : ℕ) (scale : Option CifScale) (found : CifScale) (r : Option CifCode)
+    → c ≡ Opens n scale → r ≡ None
     → IsLeastCode s (Opens n scale) r → number ≡ n → found ≡ scale_or_one scale → Leads s c (λ place. opened_state s number found)
 opening_leads s c n number scale found r e f h a b =
     leads_by s c (Opens n scale) r (λ place. opened_state s number found) e f h
     (λ place. ap (λ (v : ℕ). opened_state s v found) a ∙ ap (λ (v : CifScale). opened_state s n v) b)
 
 -- the definition that stands in a text
-pub opened_by : (text : List ℕ) (first end : ℕ) (k : CommandOf text first end kind.Opens) (opening : Opening) (found : Scale) (again nested : Bool) (r : Option CifCode)
-    → PartsLaw → ((stop n : ℕ) (scale : Option CifScale) → PartsAt text first stop (command_parts (Opens n scale)) → OpeningStands 400 n scale opening)
-    → ((s : CifState) (m n : ℕ) (scale : Option CifScale) → OpeningStands m n scale opening → Decides again (is_defined s n ≡ true) → Decides nested (IsSome s.opening)
+pub opened_by : (text : List ℕ) (first end : ℕ) (k : CommandOf text first end kind.Opens) (opening : Opening) (found : Scale)
+    (again nested : Bool) (r : Option CifCode)
+    → PartsLaw → ((stop n : ℕ) (scale : Option CifScale) → PartsAt text first stop (command_parts (Opens n scale))
+    → OpeningStands 400 n scale opening)
+    → ((s : CifState) (m n : ℕ) (scale : Option CifScale) → OpeningStands m n scale opening → Decides again (is_defined s n ≡ true)
+    → Decides nested (IsSome s.opening)
     → IsLeastCode s (Opens n scale) r)
     → r ≡ None → ratio found ≡ scale_by opening.scale
     → Defined (is_opening k.stands.here.command k.kind_is).0 (is_opening k.stands.here.command k.kind_is).1 opening found

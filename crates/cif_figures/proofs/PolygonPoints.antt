@@ -57,11 +57,13 @@ pub points_begin : (text : List ℕ) (scale : Scale) (points : List Point) (at :
 points_begin text scale points at h =
     record { rest = points; parts = h.parts; clear = record { few = h.few; on_grid = h.on_grid; not_far = h.not_far }; join = λ more k. k }
 
-pub points_next : (text : List ℕ) (scale : Scale) (stop : ℕ) (points : List Point) (from : ℕ) (found : List Point) → (u : PointsLeft text scale stop points from found)
+pub points_next : (text : List ℕ) (scale : Scale) (stop : ℕ) (points : List Point) (from : ℕ) (found : List Point)
+    → (u : PointsLeft text scale stop points from found)
     → (u.rest ≡ [] → ⊥) → PointNext text scale stop points from found
 points_next text scale stop points from found u n = by u.rest u.parts u.clear u.join n
   where
-    by : (rest : List Point) → PartsAt text from stop (flat_map point_parts rest) → IsClear (ratio scale) (point_numbers rest) (flat_map point_distances rest)
+    by : (rest : List Point) → PartsAt text from stop (flat_map point_parts rest)
+        → IsClear (ratio scale) (point_numbers rest) (flat_map point_distances rest)
         → ((more : List Point) → AreScaledPoints scale rest more → AreScaledPoints scale points (found ++ more)) → (rest ≡ [] → ⊥)
         → PointNext text scale stop points from found
     by [] p c j n = absurd (n refl)
@@ -86,7 +88,8 @@ points_more text scale stop points from next found pushed q n p s e = record {
       subst P (sym (ap (λ (l : List Point). l ++ more) e ∙ append_assoc found (q ∷ []) more)) (n.join (q ∷ more) (s, k)));
 }
 
-pub points_end : (text : List ℕ) (scale : Scale) (stop : ℕ) (points : List Point) (from : ℕ) (found : List Point) → (u : PointsLeft text scale stop points from found)
+pub points_end : (text : List ℕ) (scale : Scale) (stop : ℕ) (points : List Point) (from : ℕ) (found : List Point)
+    → (u : PointsLeft text scale stop points from found)
     → u.rest ≡ [] → AreScaledPoints scale points found
 points_end text scale stop points from found u e =
     let P : List Point → Type 0 = λ l. AreScaledPoints scale points l in
@@ -94,18 +97,21 @@ points_end text scale stop points from found u e =
     subst P (append-nil found) (u.join [] (subst Q (sym e) tt))
 
 -- the coordinates of the next point
-pub next_x : (scale : Scale) (divisor : ℕ) (p q : Point) → IsClear (ratio scale) (p.x ∷ p.y ∷ []) (point_distances p) → PointStands divisor p q → IsNearPoint q
+pub next_x : (scale : Scale) (divisor : ℕ) (p q : Point) → IsClear (ratio scale) (p.x ∷ p.y ∷ []) (point_distances p) → PointStands divisor p q
+    → IsNearPoint q
     → IsDrawnEdge (ratio scale) (pos 2 *ℤ q.x)
 next_x scale divisor p q c s n =
     drawn_twice (ratio scale) p.x q.x (s.0.exact (λ g. c.few (inl g))) n.0 (λ k. c.on_grid (inl k)) (λ k. c.not_far (inl k))
 
-pub next_y : (scale : Scale) (divisor : ℕ) (p q : Point) → IsClear (ratio scale) (p.x ∷ p.y ∷ []) (point_distances p) → PointStands divisor p q → IsNearPoint q
+pub next_y : (scale : Scale) (divisor : ℕ) (p q : Point) → IsClear (ratio scale) (p.x ∷ p.y ∷ []) (point_distances p) → PointStands divisor p q
+    → IsNearPoint q
     → IsDrawnEdge (ratio scale) (pos 2 *ℤ q.y)
 next_y scale divisor p q c s n =
     drawn_twice (ratio scale) p.y q.y (s.1.exact (λ g. c.few (inr (inl g)))) n.1 (λ k. c.on_grid (inr (inl k))) (λ k. c.not_far (inr (inl k)))
 
 -- the point that is read
-pub same_stands : (divisor : ℕ) (scale : Scale) (p q r : Point) → IsClear (ratio scale) (p.x ∷ p.y ∷ []) (point_distances p) → PointStands divisor p q → IsScaledPoint scale q r
+pub same_stands : (divisor : ℕ) (scale : Scale) (p q r : Point) → IsClear (ratio scale) (p.x ∷ p.y ∷ []) (point_distances p)
+    → PointStands divisor p q → IsScaledPoint scale q r
     → IsScaledPoint scale p r
 same_stands divisor scale p q r c s h =
     let P : Point → Type 0 = λ v. IsScaledPoint scale v r in
@@ -121,7 +127,8 @@ pub record PolygonHere (text : List ℕ) (at : ℕ) (c : CifCommand) : Type 0 wh
   pub parts : PartsAt text at stop (flat_map point_parts points)
 
 pub polygon_at : (text : List ℕ) (first end at : ℕ) (k : CommandOf text first end kind.Polygon) → PartsLaw
-    → ((stop : ℕ) (points : List Point) → PartsAt text first stop (command_parts (DrawsPolygon points)) → PartsAt text at stop (flat_map point_parts points))
+    → ((stop : ℕ) (points : List Point) → PartsAt text first stop (command_parts (DrawsPolygon points))
+    → PartsAt text at stop (flat_map point_parts points))
     → PolygonHere text at k.stands.here.command
 polygon_at text first end at k law behind =
     let o = is_polygon k.stands.here.command k.kind_is in
@@ -135,7 +142,8 @@ polygon_at text first end at k law behind =
 -- what is found of the points that stand at a place
 abbrev pub CornersLaw : List ℕ → ℕ → Scale → Corners → Type 0
 CornersLaw text at scale corners =
-    (stop : ℕ) (points : List Point) → PartsAt text at stop (flat_map point_parts points) → CornersChecked (grid_of scale) (ratio scale) points corners
+    (stop : ℕ) (points : List Point) → PartsAt text at stop (flat_map point_parts points)
+    → CornersChecked (grid_of scale) (ratio scale) points corners
 
 -- which code polygons of such points meet
 abbrev pub PolygonLaw : Option Layer → Corners → Option CifCode → Type 0
@@ -143,18 +151,22 @@ PolygonLaw layer corners r =
     (s : CifState) (divisor : ℕ) (points : List Point) → s.layer ≡ layer → CornersChecked divisor (scale_of s.opening) points corners
     → IsLeastCode s (DrawsPolygon points) r
 
-pub polygon_code_is : (s : CifState) (text : List ℕ) (at : ℕ) (points : List Point) (stop : ℕ) (scale : Scale) (layer : Option Layer) (corners : Corners) (r t : Option CifCode)
-    → PartsAt text at stop (flat_map point_parts points) → CornersLaw text at scale corners → PolygonLaw layer corners r → r ≡ t → scale_of s.opening ≡ ratio scale
+pub polygon_code_is : (s : CifState) (text : List ℕ) (at : ℕ) (points : List Point) (stop : ℕ) (scale : Scale) (layer : Option Layer)
+    (corners : Corners) (r t : Option CifCode)
+    → PartsAt text at stop (flat_map point_parts points) → CornersLaw text at scale corners → PolygonLaw layer corners r → r ≡ t
+    → scale_of s.opening ≡ ratio scale
     → s.layer ≡ layer → IsLeastCode s (DrawsPolygon points) t
 polygon_code_is s text at points stop scale layer corners r t p cl pl e f g =
     let P : CifScale → Type 0 = λ v. CornersChecked (grid_of scale) v points corners in
     let Q : Option CifCode → Type 0 = λ v. IsLeastCode s (DrawsPolygon points) v in
     subst Q e (pl s (grid_of scale) points g (subst P (sym f) (cl stop points p)))
 
-pub polygon_fault : (s : CifState) (c : CifCommand) (text : List ℕ) (at : ℕ) (scale : Scale) (layer : Option Layer) (corners : Corners) (r t : Option CifCode)
+pub polygon_fault : (s : CifState) (c : CifCommand) (text : List ℕ) (at : ℕ) (scale : Scale) (layer : Option Layer) (corners : Corners)
+    (r t : Option CifCode)
     → PolygonHere text at c → CornersLaw text at scale corners → PolygonLaw layer corners r → r ≡ t → Draws s (ratio scale) layer → IsLeastCode s c t
 polygon_fault s c text at scale layer corners r t h cl pl e d =
-    least_there s c (DrawsPolygon h.points) t t h.is refl (polygon_code_is s text at h.points h.stop scale layer corners r t h.parts cl pl e d.scale_is d.layer_is)
+    least_there s c (DrawsPolygon h.points) t t h.is refl (polygon_code_is s text at h.points h.stop scale layer corners r t h.parts cl pl e
+    d.scale_is d.layer_is)
 
 pub polygon_bare : (c : CifCommand) (text : List ℕ) (at : ℕ) (scale : Scale) (layer : Option Layer) (corners : Corners) (r : Option CifCode)
     → PolygonHere text at c → CornersLaw text at scale corners → PolygonLaw layer corners r → r ≡ None → layer ≡ None → ⊥
@@ -176,15 +188,18 @@ polygon_clear c text at scale layer corners r h cl pl e =
       rectilinear = true_from_ne_false (is_rectilinear h.points) (λ g. n C9 g);
     }
 
-pub polygon_is : (c : CifCommand) (text : List ℕ) (at : ℕ) (scale : Scale) (layer : Option Layer) (corners : Corners) (r : Option CifCode) (found : List Point)
+pub polygon_is : (c : CifCommand) (text : List ℕ) (at : ℕ) (scale : Scale) (layer : Option Layer) (corners : Corners) (r : Option CifCode)
+    (found : List Point)
     → IsScale scale → PolygonHere text at c → CornersLaw text at scale corners → PolygonLaw layer corners r → r ≡ None
     → ((points : List Point) → AreClearPoints text at (ratio scale) points → AreScaledPoints scale points found) → IsPolygon found
 polygon_is c text at scale layer corners r found s h cl pl e f =
     let k = polygon_clear c text at scale layer corners r h cl pl e in
     scaled_polygon scale h.points found s (f h.points k.points_clear) k.rectilinear
 
-pub polygon_leads : (s : CifState) (c : CifCommand) (text : List ℕ) (at : ℕ) (scale : Scale) (given : Option Layer) (layer : Layer) (corners : Corners) (r : Option CifCode)
-    (found : List Point) (boxes : List BoxShape) → PolygonHere text at c → CornersLaw text at scale corners → PolygonLaw given corners r → r ≡ None → given ≡ Some layer
+pub polygon_leads : (s : CifState) (c : CifCommand) (text : List ℕ) (at : ℕ) (scale : Scale) (given : Option Layer) (layer : Layer)
+    (corners : Corners) (r : Option CifCode)
+    (found : List Point) (boxes : List BoxShape) → PolygonHere text at c → CornersLaw text at scale corners → PolygonLaw given corners r
+    → r ≡ None → given ≡ Some layer
     → ((points : List Point) → AreClearPoints text at (ratio scale) points → AreScaledPoints scale points found) → ArePolygonBoxes layer found boxes
     → Draws s (ratio scale) given → Leads s c (λ place. drawn_in s place boxes 0 s.opening)
 polygon_leads s c text at scale given layer corners r found boxes h cl pl e g f b d =

@@ -24,7 +24,8 @@ twice_word v f h =
     ap (λ (z : ℤ). to_z w64 (of_z w64 (pos 2 *ℤ z))) (to_z-of_z w64 v f)
     ∙ to_z-of_z w64 (pos 2 *ℤ v) (fits_signed_from_abs w64 (pos 2 *ℤ v) (omega (arith, h)))
 
-pub scaled_by : (scale : Scale) (units w r : ℤ) → w ≡ pos 2 *ℤ units → r ≡ scaled (ratio scale) w → r *ℤ pos (grid_of scale) ≡ w *ℤ pos scale.times → IsReachable r
+pub scaled_by : (scale : Scale) (units w r : ℤ) → w ≡ pos 2 *ℤ units → r ≡ scaled (ratio scale) w
+    → r *ℤ pos (grid_of scale) ≡ w *ℤ pos scale.times → IsReachable r
     → IsScaled scale units r
 scaled_by scale units w r e f g h = record {
   is = f ∙ ap (scaled (ratio scale)) e;
@@ -86,7 +87,8 @@ sides_same scale p a (q ∷ ps) (b ∷ qs) s h k =
     ap (λ (t : Bool). t && list_all is_axis_side (segments_from b qs)) (side_same scale p q a b s h k.0)
     ∙ ap (λ (t : Bool). is_axis_side (record { start = p; stop = q }) && t) (sides_same scale q b ps qs s k.0 k.1)
 
-scaled_push : (scale : Scale) (ps qs : List Point) (p q : Point) → AreScaledPoints scale ps qs → IsScaledPoint scale p q → AreScaledPoints scale (ps ++ p ∷ []) (qs ++ q ∷ [])
+scaled_push : (scale : Scale) (ps qs : List Point) (p q : Point) → AreScaledPoints scale ps qs → IsScaledPoint scale p q
+    → AreScaledPoints scale (ps ++ p ∷ []) (qs ++ q ∷ [])
 scaled_push scale [] [] p q h k = (k, tt)
 scaled_push scale [] (b ∷ qs) p q h k = absurd h
 scaled_push scale (a ∷ ps) [] p q h k = absurd h

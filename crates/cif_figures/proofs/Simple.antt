@@ -25,17 +25,20 @@ pub leads_by : (s : CifState) (c d : CifCommand) (r : Option CifCode) (next : Pl
     → ((place : Place) → CommandLeads s place d (next place)) → Leads s c next
 leads_by s c d r next e f h l = record { clear = least_there s c d r None e f h; leads = λ place. leads_there s place c d (next place) e (l place) }
 
-pub layer_leads : (s : CifState) (c : CifCommand) (name : List ℕ) (layer : Layer) (found : Option Layer) (r : Option CifCode) → c ≡ SetsLayer name → found ≡ layer_named name
+pub layer_leads : (s : CifState) (c : CifCommand) (name : List ℕ) (layer : Layer) (found : Option Layer) (r : Option CifCode)
+    → c ≡ SetsLayer name → found ≡ layer_named name
     → found ≡ Some layer → r ≡ None → IsLeastCode s (SetsLayer name) r → Leads s c (λ place. record s { layer = Some layer })
 layer_leads s c name layer found r e f g k h =
     leads_by s c (SetsLayer name) r (λ place. record s { layer = Some layer }) e k h
     (λ place. ap (λ (v : Option Layer). record s { layer = v }) (sym g ∙ f))
 
-pub close_leads : (s : CifState) (c : CifCommand) (r : Option CifCode) → c ≡ Closes → r ≡ None → IsLeastCode s Closes r → Leads s c (λ place. closed_state s s.opening)
+pub close_leads : (s : CifState) (c : CifCommand) (r : Option CifCode) → c ≡ Closes → r ≡ None → IsLeastCode s Closes r
+    → Leads s c (λ place. closed_state s s.opening)
 close_leads s c r e f h = leads_by s c Closes r (λ place. closed_state s s.opening) e f h (λ place. refl)
 
 pub label_leads : (s : CifState) (c : CifCommand) (text written : List ℕ) (found : Option Label) → c ≡ Extension written → text ≡ written
-    → IsLeastCode s (Extension text) None → ((place : Place) → CommandLeads s place (Extension text) (state_with s found)) → Leads s c (λ place. state_with s found)
+    → IsLeastCode s (Extension text) None → ((place : Place) → CommandLeads s place (Extension text) (state_with s found))
+    → Leads s c (λ place. state_with s found)
 label_leads s c text written found e f h l =
     leads_by s c (Extension text) None (λ place. state_with s found) (e ∙ ap Extension (sym f)) refl h l
 

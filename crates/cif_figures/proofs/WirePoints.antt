@@ -67,7 +67,8 @@ way_found scale layer w p q edges s c e n =
         left = drawn_edge (ratio scale) o.left edges.left f.0 n.left (λ k. c.on_grid (inl k)) (λ k. c.not_far (inl k));
         bottom = drawn_edge (ratio scale) o.bottom edges.bottom f.1 n.bottom (λ k. c.on_grid (inr (inl k))) (λ k. c.not_far (inr (inl k)));
         right = drawn_edge (ratio scale) o.right edges.right f.2 n.right (λ k. c.on_grid (inr (inr (inl k)))) (λ k. c.not_far (inr (inr (inl k))));
-        top = drawn_edge (ratio scale) o.top edges.top f.3 n.top (λ k. c.on_grid (inr (inr (inr (inl k))))) (λ k. c.not_far (inr (inr (inr (inl k)))));
+        top = drawn_edge (ratio scale) o.top edges.top f.3 n.top (λ k. c.on_grid (inr (inr (inr (inl k)))))
+            (λ k. c.not_far (inr (inr (inr (inl k)))));
         across = less edges.left o.left edges.right o.right f.0 f.2 (less_wide (doubled p).x (doubled q).x w s);
         upward = less edges.bottom o.bottom edges.top o.top f.1 f.3 (less_wide (doubled p).y (doubled q).y w s);
       };
@@ -85,7 +86,8 @@ pub record WireBegun (text : List ℕ) (scale : Scale) (layer : Layer) (w stop n
   pub rest : List Point
   pub here : BendAt text (grid_of scale) point start
   pub parts : PartsAt text next stop (flat_map point_parts rest)
-  pub clear : IsClear (ratio scale) (pos w ∷ point_numbers (point ∷ rest)) (flat_map outline_distances (wire_outlines w (map doubled (point ∷ rest))))
+  pub clear : IsClear (ratio scale) (pos w ∷ point_numbers (point ∷ rest))
+      (flat_map outline_distances (wire_outlines w (map doubled (point ∷ rest))))
   pub is : all ≡ wire_boxes scale layer w (point ∷ rest)
 
 -- what is read of a point, where more parts stand behind it
@@ -95,8 +97,8 @@ BendLaw text scale from next bend =
     → BendAt text (grid_of scale) p bend × PartsAt text next stop parts
 
 pub wire_begun : (text : List ℕ) (scale : Scale) (layer : Layer) (first w : ℕ) (points : List Point) (from next : ℕ) (start : Bend)
-    → (h : IsClearWire text first (ratio scale) w points) → PartsAt text from h.stop (flat_map point_parts points) → BendLaw text scale from next start
-    → WireBegun text scale layer w h.stop next start (wire_boxes scale layer w points)
+    → (h : IsClearWire text first (ratio scale) w points) → PartsAt text from h.stop (flat_map point_parts points)
+    → BendLaw text scale from next start → WireBegun text scale layer w h.stop next start (wire_boxes scale layer w points)
 wire_begun text scale layer first w points from next start h p law =
     by points h.some (record { few = h.few; on_grid = h.on_grid; not_far = h.not_far }) p
   where
@@ -110,7 +112,8 @@ wire_begun text scale layer first w points from next start h p law =
 -- what is read of a letter at the first place, and of a width behind it
 abbrev pub LetterLaw : List ℕ → (first from : ℕ) → Type 0
 LetterLaw text first from =
-    (stop : ℕ) (letters : List ℕ) (parts : List CifPart) → length letters ≡ 1 → PartsAt text first stop (Letters letters ∷ parts) → PartsAt text from stop parts
+    (stop : ℕ) (letters : List ℕ) (parts : List CifPart) → length letters ≡ 1 → PartsAt text first stop (Letters letters ∷ parts)
+    → PartsAt text from stop parts
 
 abbrev pub WidthLaw : List ℕ → (m from behind : ℕ) → ℤ → Type 0
 WidthLaw text m from behind width =
@@ -123,8 +126,9 @@ pub record WireRead (text : List ℕ) (scale : Scale) (layer : Layer) (w stop ne
   pub stands : StandsFor (grid_of scale) (pos w) (word width)
   pub begun : WireBegun text scale layer w stop next start all
 
-pub wire_read : (text : List ℕ) (scale : Scale) (layer : Layer) (first w : ℕ) (points : List Point) (h : IsClearWire text first (ratio scale) w points)
-    (m letter from next : ℕ) (width : ℤ) (start : Bend) → m ≡ grid_of scale → LetterLaw text first letter → WidthLaw text m letter from width
+pub wire_read : (text : List ℕ) (scale : Scale) (layer : Layer) (first w : ℕ) (points : List Point)
+    (h : IsClearWire text first (ratio scale) w points) (m letter from next : ℕ) (width : ℤ) (start : Bend) → m ≡ grid_of scale
+    → LetterLaw text first letter → WidthLaw text m letter from width
     → BendLaw text scale from next start → WireRead text scale layer w h.stop next width start (wire_boxes scale layer w points)
 wire_read text scale layer first w points h m letter from next width start e ll wl bl =
     let a = ll h.stop (codes "W") (Unsigned w ∷ flat_map point_parts points) refl h.parts in
@@ -153,7 +157,8 @@ wire_single text scale layer w stop next start all b e = by b.rest b.clear b.is 
     twice (inr (inr (inr h))) = inr h
 
     by : (rest : List Point)
-        → IsClear (ratio scale) (pos w ∷ point_numbers (b.point ∷ rest)) (flat_map outline_distances (wire_outlines w (map doubled (b.point ∷ rest))))
+        → IsClear (ratio scale) (pos w ∷ point_numbers (b.point ∷ rest))
+        (flat_map outline_distances (wire_outlines w (map doubled (b.point ∷ rest))))
         → all ≡ wire_boxes scale layer w (b.point ∷ rest) → rest ≡ [] → WireSingle scale layer w b.point all
     by [] c i e = record { clear = record { few = λ g. c.few (twice g); on_grid = c.on_grid; not_far = c.not_far }; is = i }
     by (q ∷ rest) c i e = absurd cc
@@ -165,15 +170,18 @@ EdgesLaw text width last bend edges =
     → EdgesStand m (way_numbers w p q) (segment_outline w (way p q)) edges
 
 pub single_found : (text : List ℕ) (scale : Scale) (layer : Layer) (w stop next : ℕ) (width : ℤ) (start : Bend) (all : List BoxShape) (edges : Edges)
-    → (r : WireRead text scale layer w stop next width start all) → r.begun.rest ≡ [] → EdgesLaw text (word width) start start edges → AreNearEdges edges
+    → (r : WireRead text scale layer w stop next width start all) → r.begun.rest ≡ []
+    → EdgesLaw text (word width) start start edges → AreNearEdges edges
     → WayFound scale layer w r.begun.point r.begun.point edges
 single_found text scale layer w stop next width start all edges r e law near =
     let b = r.begun in
     let s = wire_single text scale layer w stop next start all b e in
     way_found scale layer w b.point b.point edges r.some s.clear (law (grid_of scale) w b.point b.point r.stands b.here b.here) near
 
-pub single_is : (text : List ℕ) (scale : Scale) (layer : Layer) (w stop next : ℕ) (width : ℤ) (start : Bend) (all found pushed : List BoxShape) (edges : Edges) (b : BoxShape)
-    → (r : WireRead text scale layer w stop next width start all) → r.begun.rest ≡ [] → EdgesLaw text (word width) start start edges → AreNearEdges edges
+pub single_is : (text : List ℕ) (scale : Scale) (layer : Layer) (w stop next : ℕ) (width : ℤ) (start : Bend)
+    (all found pushed : List BoxShape) (edges : Edges) (b : BoxShape)
+    → (r : WireRead text scale layer w stop next width start all) → r.begun.rest ≡ []
+    → EdgesLaw text (word width) start start edges → AreNearEdges edges
     → b ≡ box_of scale layer (outline_of edges) → found ≡ [] → pushed ≡ found ++ b ∷ [] → pushed ≡ all
 single_is text scale layer w stop next width start all found pushed edges b r e law near f g h =
     let s = wire_single text scale layer w stop next start all r.begun e in
@@ -185,7 +193,8 @@ single_is text scale layer w stop next width start all found pushed edges b r e 
 -- ---- the loop
 
 -- some segments are drawn, the last of them up to a point, and the others stand from a place on
-pub record WireLeft (text : List ℕ) (scale : Scale) (layer : Layer) (w stop : ℕ) (all : List BoxShape) (from : ℕ) (last : Bend) (found : List BoxShape) : Type 0 where
+pub record WireLeft (text : List ℕ) (scale : Scale) (layer : Layer) (w stop : ℕ) (all : List BoxShape) (from : ℕ) (last : Bend)
+    (found : List BoxShape) : Type 0 where
   pub start : Point
   pub rest : List Point
   pub here : BendAt text (grid_of scale) start last
@@ -194,7 +203,8 @@ pub record WireLeft (text : List ℕ) (scale : Scale) (layer : Layer) (w stop : 
   pub join : all ≡ found ++ map (box_of scale layer) (outlines_from w start rest)
 
 -- the next segment
-pub record WireNext (text : List ℕ) (scale : Scale) (layer : Layer) (w stop : ℕ) (all : List BoxShape) (from : ℕ) (last : Bend) (found : List BoxShape) : Type 0 where
+pub record WireNext (text : List ℕ) (scale : Scale) (layer : Layer) (w stop : ℕ) (all : List BoxShape) (from : ℕ) (last : Bend)
+    (found : List BoxShape) : Type 0 where
   pub start : Point
   pub point : Point
   pub rest : List Point
@@ -209,7 +219,8 @@ pub wire_begin : (text : List ℕ) (scale : Scale) (layer : Layer) (w stop next 
 wire_begin text scale layer w stop next start all b n = by b.rest b.parts b.clear b.is n
   where
     by : (rest : List Point) → PartsAt text next stop (flat_map point_parts rest)
-        → IsClear (ratio scale) (pos w ∷ point_numbers (b.point ∷ rest)) (flat_map outline_distances (wire_outlines w (map doubled (b.point ∷ rest))))
+        → IsClear (ratio scale) (pos w ∷ point_numbers (b.point ∷ rest))
+        (flat_map outline_distances (wire_outlines w (map doubled (b.point ∷ rest))))
         → all ≡ wire_boxes scale layer w (b.point ∷ rest) → (rest ≡ [] → ⊥) → WireLeft text scale layer w stop all next start []
     by [] p c i n = absurd (n refl)
     by (q ∷ rest) p c i n = record { start = b.point; rest = q ∷ rest; here = b.here; parts = p; clear = c; join = i }
@@ -227,7 +238,8 @@ wire_next text scale layer w stop all from last found u n = by u.rest u.parts u.
   where
     by : (rest : List Point) → PartsAt text from stop (flat_map point_parts rest)
         → IsClear (ratio scale) (pos w ∷ u.start.x ∷ u.start.y ∷ point_numbers rest) (flat_map outline_distances (outlines_from w u.start rest))
-        → all ≡ found ++ map (box_of scale layer) (outlines_from w u.start rest) → (rest ≡ [] → ⊥) → WireNext text scale layer w stop all from last found
+        → all ≡ found ++ map (box_of scale layer) (outlines_from w u.start rest) → (rest ≡ [] → ⊥)
+        → WireNext text scale layer w stop all from last found
     by [] p c j n = absurd (n refl)
     by (q ∷ rest) p c j n =
         let ds : List ℤ = outline_distances (segment_outline w (way u.start q)) in
@@ -244,8 +256,8 @@ wire_next text scale layer w stop all from last found u n = by u.rest u.parts u.
         }
 
 -- the next segment, whose edges are found
-pub record WireStep (text : List ℕ) (scale : Scale) (layer : Layer) (w stop : ℕ) (all : List BoxShape) (from next : ℕ) (last bend : Bend) (found : List BoxShape)
-    (edges : Edges) : Type 0 where
+pub record WireStep (text : List ℕ) (scale : Scale) (layer : Layer) (w stop : ℕ) (all : List BoxShape) (from next : ℕ) (last bend : Bend)
+    (found : List BoxShape) (edges : Edges) : Type 0 where
   pub segment : WireNext text scale layer w stop all from last found
   pub here : BendAt text (grid_of scale) segment.point bend
   pub parts : PartsAt text next stop (flat_map point_parts segment.rest)
@@ -265,9 +277,9 @@ wire_step text scale layer w stop all from next width last bend found edges u n 
       way = way_found scale layer w k.start k.point edges some k.between (el (grid_of scale) w k.start k.point st k.here m.0) near;
     }
 
-pub wire_more : (text : List ℕ) (scale : Scale) (layer : Layer) (w stop : ℕ) (all : List BoxShape) (from next : ℕ) (last bend : Bend) (found pushed : List BoxShape)
-    (edges : Edges) (b : BoxShape) → WireStep text scale layer w stop all from next last bend found edges → b ≡ box_of scale layer (outline_of edges)
-    → pushed ≡ found ++ b ∷ [] → WireLeft text scale layer w stop all next bend pushed
+pub wire_more : (text : List ℕ) (scale : Scale) (layer : Layer) (w stop : ℕ) (all : List BoxShape) (from next : ℕ) (last bend : Bend)
+    (found pushed : List BoxShape) (edges : Edges) (b : BoxShape) → WireStep text scale layer w stop all from next last bend found edges
+    → b ≡ box_of scale layer (outline_of edges) → pushed ≡ found ++ b ∷ [] → WireLeft text scale layer w stop all next bend pushed
 wire_more text scale layer w stop all from next last bend found pushed edges b s e f =
     let n = s.segment in
     let more : List BoxShape = map (box_of scale layer) (outlines_from w n.point n.rest) in

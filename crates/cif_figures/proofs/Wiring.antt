@@ -50,18 +50,20 @@ ChecksLaw text first scale found =
 -- which code such wires meet
 abbrev pub WireLaw : Option Layer → WireChecks → Option CifCode → Type 0
 WireLaw layer found r =
-    (s : CifState) (w : ℕ) (points : List Point) → s.layer ≡ layer → WireChecked (scale_of s.opening) w points found → IsLeastCode s (DrawsWire w points) r
+    (s : CifState) (w : ℕ) (points : List Point) → s.layer ≡ layer → WireChecked (scale_of s.opening) w points found
+    → IsLeastCode s (DrawsWire w points) r
 
-wire_least : (s : CifState) (c : CifCommand) (text : List ℕ) (first : ℕ) (scale : Scale) (layer : Option Layer) (found : WireChecks) (r t : Option CifCode)
-    → (h : WireHere text first c) → ChecksLaw text first scale found → WireLaw layer found r → r ≡ t → scale_of s.opening ≡ ratio scale → s.layer ≡ layer
-    → IsLeastCode s (DrawsWire h.w h.points) t
+wire_least : (s : CifState) (c : CifCommand) (text : List ℕ) (first : ℕ) (scale : Scale) (layer : Option Layer) (found : WireChecks)
+    (r t : Option CifCode) → (h : WireHere text first c) → ChecksLaw text first scale found → WireLaw layer found r → r ≡ t
+    → scale_of s.opening ≡ ratio scale → s.layer ≡ layer → IsLeastCode s (DrawsWire h.w h.points) t
 wire_least s c text first scale layer found r t h cl wl e f g =
     let P : CifScale → Type 0 = λ v. WireChecked v h.w h.points found in
     let Q : Option CifCode → Type 0 = λ v. IsLeastCode s (DrawsWire h.w h.points) v in
     subst Q e (wl s h.w h.points g (subst P (sym f) (cl h.stop h.w h.points h.parts)))
 
-pub wire_fault : (s : CifState) (c : CifCommand) (text : List ℕ) (first : ℕ) (scale : Scale) (layer : Option Layer) (found : WireChecks) (r t : Option CifCode)
-    → WireHere text first c → ChecksLaw text first scale found → WireLaw layer found r → r ≡ t → Draws s (ratio scale) layer → IsLeastCode s c t
+pub wire_fault : (s : CifState) (c : CifCommand) (text : List ℕ) (first : ℕ) (scale : Scale) (layer : Option Layer) (found : WireChecks)
+    (r t : Option CifCode) → WireHere text first c → ChecksLaw text first scale found → WireLaw layer found r → r ≡ t
+    → Draws s (ratio scale) layer → IsLeastCode s c t
 wire_fault s c text first scale layer found r t h cl wl e d =
     least_there s c (DrawsWire h.w h.points) t t h.is refl (wire_least s c text first scale layer found r t h cl wl e d.scale_is d.layer_is)
 
@@ -72,7 +74,8 @@ wire_bare c text first scale layer found r h cl wl e f =
     wire_least (scaled_state (ratio scale) None) c text first scale layer found r None h cl wl e refl (sym f) C3 refl
 
 pub wire_clear : (c : CifCommand) (text : List ℕ) (first : ℕ) (scale : Scale) (layer : Option Layer) (found : WireChecks) (r : Option CifCode)
-    → (h : WireHere text first c) → ChecksLaw text first scale found → WireLaw layer found r → r ≡ None → IsClearWire text first (ratio scale) h.w h.points
+    → (h : WireHere text first c) → ChecksLaw text first scale found → WireLaw layer found r → r ≡ None
+    → IsClearWire text first (ratio scale) h.w h.points
 wire_clear c text first scale layer found r h cl wl e =
     let n : IsLeastCode (scaled_state (ratio scale) layer) (DrawsWire h.w h.points) None =
     wire_least (scaled_state (ratio scale) layer) c text first scale layer found r None h cl wl e refl refl in
@@ -86,8 +89,9 @@ wire_clear c text first scale layer found r h cl wl e =
       even = λ g. n C9 g;
     }
 
-pub wire_leads : (s : CifState) (c : CifCommand) (text : List ℕ) (first : ℕ) (scale : Scale) (given : Option Layer) (layer : Layer) (found : WireChecks)
-    (r : Option CifCode) (boxes : List BoxShape) → WireHere text first c → ChecksLaw text first scale found → WireLaw given found r → r ≡ None → given ≡ Some layer
+pub wire_leads : (s : CifState) (c : CifCommand) (text : List ℕ) (first : ℕ) (scale : Scale) (given : Option Layer) (layer : Layer)
+    (found : WireChecks) (r : Option CifCode) (boxes : List BoxShape) → WireHere text first c → ChecksLaw text first scale found
+    → WireLaw given found r → r ≡ None → given ≡ Some layer
     → ((w : ℕ) (points : List Point) → IsClearWire text first (ratio scale) w points → boxes ≡ wire_boxes scale layer w points)
     → Draws s (ratio scale) given → Leads s c (λ place. drawn_in s place boxes 0 s.opening)
 wire_leads s c text first scale given layer found r boxes h cl wl e g f d =
@@ -95,6 +99,7 @@ wire_leads s c text first scale given layer found r boxes h cl wl e g f d =
     (wire_least s c text first scale given found r None h cl wl e d.scale_is d.layer_is)
     (λ place. (
       boxes,
-      shaped s (DrawsWire h.w h.points) (ratio scale) layer boxes d.scale_is (d.layer_is ∙ g) (f h.w h.points (wire_clear c text first scale given found r h cl wl e)),
+      shaped s (DrawsWire h.w h.points) (ratio scale) layer boxes d.scale_is (d.layer_is ∙ g)
+          (f h.w h.points (wire_clear c text first scale given found r h cl wl e)),
       refl,
     ))

@@ -51,7 +51,8 @@ pub fn box_drawn(
 fn box_of(scale: Scale, layer: Layer, sides: Sides) -> Box2
     requires scale { IsScale scale }
     requires near { AreNearSides sides }
-    requires clear { (along across : ℕ) × (centre : Point) × (direction : Option Point) × IsClearBox scale layer along across centre direction sides }
+    requires clear { (along across : ℕ) × (centre : Point) × (direction : Option Point)
+        × IsClearBox scale layer along across centre direction sides }
     ensures { (along across : ℕ) (centre : Point) (direction : Option Point) → IsClearBox scale layer along across centre direction sides
         → result ∷ [] ≡ map (outlined_box layer (scaled (ratio scale))) (box_outlines along across centre (direction_or_east direction)) }
 {

@@ -43,10 +43,12 @@ found_fault text first end is_open (Err code) law h = λ s c d.
 
 pub returns-clause-label : goal.returns-clause-label
 returns-clause-label c =
-    found_leads c.args.text.now c.args.first c.args.end c.args.is_open c.label_of.result (λ from h. c.extensions_stand.ensures c.args.text.now from c.args.first c.args.end h)
+    found_leads c.args.text.now c.args.first c.args.end c.args.is_open c.label_of.result (λ from h. c.extensions_stand.ensures c.args.text.now
+    from c.args.first c.args.end h)
     c.label_of.ensures.clear c.label_of.ensures.leads
 
 pub returns-clause-fault : goal.returns-clause-fault
 returns-clause-fault c =
-    found_fault c.args.text.now c.args.first c.args.end c.args.is_open c.label_of.result (λ from h. c.extensions_stand.ensures c.args.text.now from c.args.first c.args.end h)
+    found_fault c.args.text.now c.args.first c.args.end c.args.is_open c.label_of.result (λ from h. c.extensions_stand.ensures c.args.text.now
+    from c.args.first c.args.end h)
     c.label_of.ensures.fault

@@ -14,7 +14,8 @@ use Rattle.cif_figures.proofs.Simple.{least_there, layer_leads}
 use Rattle.cif_figures.proofs.layers.layer_set.Goals as goal
 
 -- a name of no layer meets a code
-unnamed : (s : CifState) (name : List ℕ) (found : Option Layer) (r : Option CifCode) → found ≡ layer_named name → found ≡ None → r ≡ None → IsLeastCode s (SetsLayer name) r → ⊥
+unnamed : (s : CifState) (name : List ℕ) (found : Option Layer) (r : Option CifCode) → found ≡ layer_named name → found ≡ None → r ≡ None
+    → IsLeastCode s (SetsLayer name) r → ⊥
 unnamed s name found r l e f h =
     let P : Option CifCode → Type 0 = λ v. IsLeastCode s (SetsLayer name) v in
     (subst P f h) C2 (sym l ∙ e)

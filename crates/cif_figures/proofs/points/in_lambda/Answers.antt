@@ -10,5 +10,6 @@ returns c =
     let v : ℤ = c.scaled.result in
     let P : ℤ → Type 0 = λ z. IsScaled c.args.scale c.args.units z in
     subst P (sym (reachable_word v c.scaled.ensures.reachable))
-    (scaled_by c.args.scale c.args.units _ v (twice_word c.args.units c.ranges.units c.requires.drawn.near) c.scaled.ensures.scaled c.scaled.ensures.exact
+    (scaled_by c.args.scale c.args.units _ v (twice_word c.args.units c.ranges.units c.requires.drawn.near) c.scaled.ensures.scaled
+    c.scaled.ensures.exact
     c.scaled.ensures.reachable)

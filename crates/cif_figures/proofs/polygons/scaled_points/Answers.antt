@@ -44,8 +44,10 @@ loop-scale-preserved c = record {
       let n = points_next c.args.text.now c.args.scale h.stop points c.loop-scale.from c.loop-scale.points.items u
       (c.points_stand.ensures.yes c.loop-scale-test.true h.stop u.rest u.parts) in
       let m = c.point_here-next.ensures.parts h.stop n.point (flat_map point_parts n.rest) n.parts in
-      points_more c.args.text.now c.args.scale h.stop points c.loop-scale.from c.point_here-next.result.1 c.loop-scale.points.items c.push.new.self.items
-      c.scaled_point.result n m.1 (same_stands c.grid.result c.args.scale n.point c.point_here-next.result.0 c.scaled_point.result n.here m.0 c.scaled_point.ensures)
+      points_more c.args.text.now c.args.scale h.stop points c.loop-scale.from c.point_here-next.result.1 c.loop-scale.points.items
+      c.push.new.self.items
+      c.scaled_point.result n m.1 (same_stands c.grid.result c.args.scale n.point c.point_here-next.result.0 c.scaled_point.result n.here m.0
+      c.scaled_point.ensures)
       c.in_ok-push.ensures.items);
 }
 

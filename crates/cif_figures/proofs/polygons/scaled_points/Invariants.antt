@@ -9,7 +9,8 @@ use Rattle.cif_figures.proofs.polygons.scaled_points.Given as goal
 abbrev pub invariant-loop-scale : goal.invariant-loop-scale
 invariant-loop-scale l = record {
   place : l.from ≤ length l.text;
-  left : (points : List Point) (h : AreClearPoints l.text l.fn.at (ratio l.fn.scale) points) → PointsLeft l.text l.fn.scale h.stop points l.from l.points.items;
+  left : (points : List Point) (h : AreClearPoints l.text l.fn.at (ratio l.fn.scale) points)
+      → PointsLeft l.text l.fn.scale h.stop points l.from l.points.items;
 }
 
 abbrev pub decreases-loop-scale : goal.decreases-loop-scale

@@ -46,8 +46,10 @@ invariant_of-result c =
     let s = c.requires.scale in
     let d = c.requires.drawn in
     record {
-      across = side c.args.scale c.args.edges.left c.args.edges.right c.scaled.result c.scaled-3.result s d.left d.right d.across c.scaled.ensures.exact
+      across = side c.args.scale c.args.edges.left c.args.edges.right c.scaled.result c.scaled-3.result s d.left d.right d.across
+          c.scaled.ensures.exact
           c.scaled-3.ensures.exact c.scaled.ensures.reachable c.scaled-3.ensures.reachable;
-      upward = side c.args.scale c.args.edges.bottom c.args.edges.top c.scaled-2.result c.scaled-4.result s d.bottom d.top d.upward c.scaled-2.ensures.exact
+      upward = side c.args.scale c.args.edges.bottom c.args.edges.top c.scaled-2.result c.scaled-4.result s d.bottom d.top d.upward
+          c.scaled-2.ensures.exact
           c.scaled-4.ensures.exact c.scaled-2.ensures.reachable c.scaled-4.ensures.reachable;
     }

@@ -54,7 +54,8 @@ loop-scale-init c = record {
 }
 
 -- the next segment
-step : (c : After-segment_edges-edges-in-loop-scale) (w : ℕ) (points : List Point) (h : IsClearWire c.args.text.now c.args.first (ratio c.args.scale) w points)
+step : (c : After-segment_edges-edges-in-loop-scale) (w : ℕ) (points : List Point)
+    (h : IsClearWire c.args.text.now c.args.first (ratio c.args.scale) w points)
     → WireStep c.args.text.now c.args.scale c.args.layer w h.stop (wire_boxes c.args.scale c.args.layer w points) c.loop-scale.from
     c.bend_here-next-in-loop-scale.result.1 c.loop-scale.last c.bend_here-next-in-loop-scale.result.0 c.loop-scale.boxes.items
     c.segment_edges-edges-in-loop-scale.result
