@@ -1,5 +1,5 @@
 -- What commands do to what is known.
-use Rattle.std.proofs.Common.{◌≡◌, ℕ, ◌==◌, ◌^◌, ◌≤◌, ◌||◌, ◌&&◌, nat_le, Bool, true, false, List, [], ◌∷◌, ◌++◌, Option, Some, None, IsSome, refl, sym, ◌∙◌, ap, subst, arith}
+use Rattle.std.proofs.Common.{◌≡◌, ℕ, ◌==◌, ◌^◌, ◌≤◌, ◌||◌, ◌&&◌, Bool, true, false, List, Option, Some, None, IsSome, refl, sym, ◌∙◌, ap, subst, arith}
 use Rattle.std.specs.List.{list_all, list_any}
 use Rattle.std.proofs.lemmas.Bool.{le-leb}
 use Rattle.rx_text.specs.declared.place.Place.{Place}
@@ -8,7 +8,7 @@ use Rattle.geom.specs.declared.chip.Label.{Label}
 use Rattle.geom.specs.Squares.{BoxShape}
 use Rattle.geom.specs.declared.cif_code.CifCode.TheVariants.{C5, C6}
 use Rattle.geom.specs.CifCommands.{CifCommand, Empty, Comment, Opens, Closes, CallsSymbol, SetsLayer, DrawsBox, DrawsPolygon, DrawsWire, Extension}
-use Rattle.geom.specs.CifDrawings.{CifSymbol, CifDrawing, CifState, symbol_of, CommandLeads, drawn_in, closed_state, labelled_state}
+use Rattle.geom.specs.CifDrawings.{CifSymbol, CifDrawing, CifState, symbol_of, CommandLeads, drawn_in, closed_state}
 use Rattle.geom.specs.CifCodes.{is_defined, is_opened}
 use Rattle.cif_drawing.specs.declared.placement.Step.{Step}
 use Rattle.cif_drawing.specs.Placements.{stepped_boxes}
@@ -23,7 +23,7 @@ use Rattle.cif_figures.specs.Figures.{Leads, symbol_in}
 use Rattle.cif_figures.specs.Openings.{opened_state}
 use Rattle.cif_read.specs.declared.reader.Open.{Open}
 use Rattle.cif_read.specs.declared.reader.Reader.{Reader}
-use Rattle.cif_read.specs.States.{opening_of, state_of, outer_layer, is_few, IsOpen, AreOpen, IsReader, IsRead}
+use Rattle.cif_read.specs.States.{opening_of, state_of, outer_layer, is_few, AreOpen, IsReader, IsRead}
 use Rattle.cif_read.proofs.States.{not_open, nothing_found}
 
 -- The command leads to the state of what is known next.
@@ -41,12 +41,20 @@ read_to old new place c next h e kept = record {
 -- boxes of a command, in the definition that is open or outside
 record Drew (symbols : List CifSymbol) (drawing : CifDrawing) (o : Option CifSymbol) (p : Option Open) (layer : Option Layer) (place : Place)
     (boxes : List BoxShape) (chain : ℕ) : Type 0 where
-  state : state_of (record { builder = drawn_parts (record { symbols = symbols; opening = o; drawing = drawing }) place boxes chain o; opening =
-      p; layer = layer })
-    ≡ drawn_in (state_of (record { builder = record { symbols = symbols; opening = o; drawing = drawing }; opening = p; layer = layer })) place
-        boxes chain (opening_of o p)
-  kept : IsReader (record { builder = drawn_parts (record { symbols = symbols; opening = o; drawing = drawing }) place boxes chain o; opening =
-      p; layer = layer })
+  state : state_of (record {
+    builder = drawn_parts (record { symbols = symbols; opening = o; drawing = drawing }) place boxes chain o;
+    opening =
+        p;
+    layer = layer;
+  })
+      ≡ drawn_in (state_of (record { builder = record { symbols = symbols; opening = o; drawing = drawing }; opening = p; layer = layer })) place
+      boxes chain (opening_of o p)
+  kept : IsReader (record {
+    builder = drawn_parts (record { symbols = symbols; opening = o; drawing = drawing }) place boxes chain o;
+    opening =
+        p;
+    layer = layer;
+  })
 
 drew : (symbols : List CifSymbol) (drawing : CifDrawing) (o : Option CifSymbol) (p : Option Open) (layer : Option Layer) (place : Place)
     (boxes : List BoxShape) (chain : ℕ) → AreOpen o p → list_all is_few symbols ≡ true → Drew symbols drawing o p layer place boxes chain
@@ -59,13 +67,13 @@ drew symbols drawing (Some s) (Some q) layer place boxes chain h few =
 pub drawn : (old : Reader) (b : DrawingParts) (place : Place) (c : CifCommand) (boxes : List BoxShape) (chain : ℕ) → IsReader old
     → Leads (state_of old) c (λ p. drawn_in (state_of old) p boxes chain (state_of old).opening)
     → b ≡ drawn_parts old.builder place boxes chain old.builder.opening → IsRead old place c
-        (record { builder = b; opening = old.opening; layer = old.layer })
+    (record { builder = b; opening = old.opening; layer = old.layer })
 drawn old b place c boxes chain h leads e =
     let d : Drew old.builder.symbols old.builder.drawing old.builder.opening old.opening old.layer place boxes chain =
     drew old.builder.symbols old.builder.drawing old.builder.opening old.opening old.layer place boxes chain h.opening h.few in
     subst (λ (v : DrawingParts). IsRead old place c (record { builder = v; opening = old.opening; layer = old.layer })) (sym e)
     (read_to old (record { builder = drawn_parts old.builder place boxes chain old.builder.opening; opening = old.opening; layer = old.layer })
-        place c
+    place c
     (λ p. drawn_in (state_of old) p boxes chain (state_of old).opening) leads d.state d.kept)
 
 -- a symbol that is called by a number that stands for its own
@@ -74,12 +82,12 @@ pub called : (old : Reader) (b : DrawingParts) (place : Place) (c : CifCommand) 
     → Leads (state_of old) c (λ p. drawn_in (state_of old) p (stepped_boxes steps (part_boxes (symbol_of (state_of old) n)))
     (chain_or_none (symbol_of (state_of old) n)) (state_of old).opening)
     → b ≡ drawn_parts old.builder place (stepped_boxes steps (part_boxes (part_of old.builder v))) (chain_or_none
-        (part_of old.builder v)) old.builder.opening
+    (part_of old.builder v)) old.builder.opening
     → IsRead old place c (record { builder = b; opening = old.opening; layer = old.layer })
 called old b place c steps n v h same leads e =
     drawn old b place c (stepped_boxes steps (part_boxes (symbol_of (state_of old) n))) (chain_or_none (symbol_of (state_of old) n)) h leads
     (e ∙ ap (λ (o : Option CifSymbol). drawn_parts old.builder place (stepped_boxes steps (part_boxes o))
-        (chain_or_none o) old.builder.opening) same)
+    (chain_or_none o) old.builder.opening) same)
 
 -- a symbol whose chain of calls is known
 pub known : (o : Option CifSymbol) (calls : ℕ) → part_chain o ≡ Some calls → IsSome o × (chain_or_none o ≡ calls)
@@ -96,7 +104,7 @@ pub layered : (old : Reader) (place : Place) (c : CifCommand) (layer : Layer) �
     → IsRead old place c (record { builder = old.builder; opening = old.opening; layer = Some layer })
 layered old place c layer h leads =
     read_to old (record { builder = old.builder; opening = old.opening; layer = Some layer }) place c (λ p. record
-        (state_of old) { layer = Some layer }) leads refl
+    (state_of old) { layer = Some layer }) leads refl
     (record { opening = h.opening; few = h.few })
 
 pub labelled : (old : Reader) (b : DrawingParts) (place : Place) (c : CifCommand) (label : Label) → IsReader old
@@ -133,7 +141,7 @@ pub may_open : (old : Reader) (n : ℕ) → IsReader old → (IsSome (state_of o
 may_open old n h closed new = (
   not_open old.builder.opening old.opening h.opening closed,
   nothing_found (λ symbol. symbol.number == n) old.builder.symbols
-  (or_first (list_any (λ symbol. symbol.number == n) old.builder.symbols) (is_opened (opening_of old.builder.opening old.opening) n) new),
+      (or_first (list_any (λ symbol. symbol.number == n) old.builder.symbols) (is_opened (opening_of old.builder.opening old.opening) n) new),
 )
 
 pub opened : (old : Reader) (b : DrawingParts) (place : Place) (c : CifCommand) (n : ℕ) (scale : Scale) → IsReader old → n ≤ 2 ^ 40 → IsScale scale
@@ -148,12 +156,20 @@ opened old b place c n scale h few is leads e =
 
 -- the definition that is open is closed
 record Shut (symbols : List CifSymbol) (drawing : CifDrawing) (o : Option CifSymbol) (p : Option Open) (layer : Option Layer) : Type 0 where
-  state : state_of (record { builder = closed_parts (record { symbols = symbols; opening = o; drawing = drawing }) o; opening = None; layer =
-      outer_layer p layer })
-    ≡ closed_state (state_of (record { builder = record { symbols = symbols; opening = o; drawing = drawing }; opening = p; layer = layer }))
-        (opening_of o p)
-  kept : IsReader (record { builder = closed_parts (record { symbols = symbols; opening = o; drawing = drawing }) o; opening = None; layer =
-      outer_layer p layer })
+  state : state_of (record {
+    builder = closed_parts (record { symbols = symbols; opening = o; drawing = drawing }) o;
+    opening = None;
+    layer =
+        outer_layer p layer;
+  })
+      ≡ closed_state (state_of (record { builder = record { symbols = symbols; opening = o; drawing = drawing }; opening = p; layer = layer }))
+      (opening_of o p)
+  kept : IsReader (record {
+    builder = closed_parts (record { symbols = symbols; opening = o; drawing = drawing }) o;
+    opening = None;
+    layer =
+        outer_layer p layer;
+  })
 
 shut : (symbols : List CifSymbol) (drawing : CifDrawing) (o : Option CifSymbol) (p : Option Open) (layer : Option Layer) → AreOpen o p
     → list_all is_few symbols ≡ true → Shut symbols drawing o p layer
@@ -175,5 +191,5 @@ closed old b place c h leads e =
     shut old.builder.symbols old.builder.drawing old.builder.opening old.opening old.layer h.opening h.few in
     subst (λ (v : DrawingParts). IsRead old place c (record { builder = v; opening = None; layer = outer_layer old.opening old.layer })) (sym e)
     (read_to old (record { builder = closed_parts old.builder old.builder.opening; opening = None; layer = outer_layer old.opening old.layer })
-        place c
+    place c
     (λ p. closed_state (state_of old) (state_of old).opening) leads d.state d.kept)

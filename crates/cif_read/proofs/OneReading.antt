@@ -1,6 +1,5 @@
 -- Texts have one reading: what stands first is one thing, and leads to one state.
-use Rattle.std.specs.Prelude.{⊤}
-use Rattle.std.proofs.Common.{◌≡◌, ◌≢◌, ◌⊎◌, inl, inr, ℕ, ◌<◌, ◌==◌, Bool, true, false, ◌&&◌, cond, List, [], ◌∷◌, ◌++◌, Option, Some, None, IsSome, IsNone, codes, refl, sym, ◌∙◌, ap, subst, append_assoc, arith}
+use Rattle.std.proofs.Common.{◌≡◌, ◌⊎◌, inl, inr, ℕ, ◌<◌, ◌==◌, Bool, true, false, ◌&&◌, cond, List, [], ◌∷◌, ◌++◌, Option, IsSome, IsNone, codes, refl, sym, ◌∙◌, ap, subst, append_assoc, arith}
 use Rattle.std.specs.List.{list_all, take_while}
 use Rattle.std.proofs.lemmas.Bool.{cases_lt}
 use Rattle.std.proofs.lemmas.List.Sums.{take_while-cons}
@@ -12,10 +11,10 @@ use Rattle.geom.specs.declared.cif_code.CifCode.{CifCode}
 use Rattle.geom.specs.declared.cif_code.CifCode.TheVariants.{C1, C2, C3, C4, C5, C6, C7, C8, C9, C10, C11, C12, C13, C14, C15}
 use Rattle.geom.specs.Squares.{BoxShape}
 use Rattle.geom.specs.CifShapes.{ArePolygonBoxes}
-use Rattle.geom.specs.CifCommands.{CifCommand, AreCifBlanks, is_cif_blank, SpellsCommand}
-use Rattle.geom.specs.CifDrawings.{CifDrawing, CifState, CifOpening, blank_state, CommandLeads}
+use Rattle.geom.specs.CifCommands.{CifCommand, AreCifBlanks, is_cif_blank}
+use Rattle.geom.specs.CifDrawings.{CifState, CifOpening, blank_state, CommandLeads}
 use Rattle.geom.specs.CifCodes.{MeetsCode, code_number}
-use Rattle.geom.specs.CifRefusals.{CommandHere, IsSentence, BreaksCommand, CutsCommand, CommandFault, CommandRead, DrawsFrom, RefusedFrom, CifRefusal, IsCifText, front_with}
+use Rattle.geom.specs.CifRefusals.{CommandHere, IsSentence, BreaksCommand, CutsCommand, CommandFault, CommandRead, DrawsFrom, RefusedFrom, front_with}
 use Rattle.geom.specs.CifRefusals.CommandFault.{breaks, cuts, outside, meets, end_within, behind_end}
 use Rattle.geom.specs.CifRefusals.DrawsFrom.{end as ends, command as goes}
 use Rattle.geom.specs.CifRefusals.RefusedFrom.{here, later}
@@ -183,17 +182,18 @@ one_least : (s : CifState) (c : CifCommand) (a b : CifCode) → MeetsCode a s c 
     → ((lower : CifCode) → code_number lower < code_number a → MeetsCode lower s c → ⊥)
     → ((lower : CifCode) → code_number lower < code_number b → MeetsCode lower s c → ⊥) → a ≡ b
 one_least s c a b ma mb la lb = elim (cases_lt (code_number a) (code_number b)) [
-  inl less ↦ absurd (lb a less ma)
+  | inl less ↦ absurd (lb a less ma)
   | inr most ↦ (elim (cases_lt (code_number b) (code_number a)) [
-      | inl more ↦ absurd (la b more mb)
-      | inr least ↦ (let e : code_number a ≡ code_number b = omega (arith, most, least) in sym (back a) ∙ (ap from_number e ∙ back b))
-    ]) ]
+    | inl more ↦ absurd (la b more mb)
+    | inr least ↦ (let e : code_number a ≡ code_number b = omega (arith, most, least) in sym (back a) ∙ (ap from_number e ∙ back b))
+  ])
+]
 
 -- ---- one command
 
 module _ (apart : SentencesAreApart)
     (polygons : (layer : Layer) (points : List Point) (boxes others : List BoxShape) → ArePolygonBoxes layer points boxes
-        → ArePolygonBoxes layer points others → boxes ≡ others) where
+    → ArePolygonBoxes layer points others → boxes ≡ others) where
   record SameCommand (rest : List ℕ) (h k : CommandHere rest) : Type 0 where
     gaps : h.gap ≡ k.gap
     bytes : h.bytes ++ codes ";" ≡ k.bytes ++ codes ";"
@@ -203,9 +203,14 @@ module _ (apart : SentencesAreApart)
   same_command : (rest : List ℕ) (h k : CommandHere rest) → SameCommand rest h k
   same_command rest h k =
       let a = agree apart rest h.gap k.gap (h.bytes ++ codes ";") (k.bytes ++ codes ";") h.behind k.behind (command_here rest h)
-          (command_here rest k) in
-      record { gaps = a.gaps; bytes = a.sentences; behind = a.behind; commands = one_command h.command k.command h.bytes k.bytes h.spelled
-          k.spelled a.sentences }
+      (command_here rest k) in
+      record {
+        gaps = a.gaps;
+        bytes = a.sentences;
+        behind = a.behind;
+        commands = one_command h.command k.command h.bytes k.bytes h.spelled
+            k.spelled a.sentences;
+      }
 
   record SameNext (front rest : List ℕ) (h k : CommandHere rest) (next other : CifState) : Type 0 where
     states : next ≡ other
@@ -236,7 +241,7 @@ module _ (apart : SentencesAreApart)
       → rest ≡ other ++ bytes → other ≡ take_while is_cif_blank rest → CutsCommand bytes → ⊥
   break_cut rest gap before behind other bytes e g b f h c =
       let s = one_split rest gap (before ++ behind) other bytes (split_taken rest gap (before ++ behind) (e ∙ append_assoc gap before behind) g)
-          (split_taken rest other bytes f h) in
+      (split_taken rest other bytes f h) in
       apart.not_both before behind bytes b c (sym s.1)
 
   break_sentence : (rest gap before behind other xs more : List ℕ) → rest ≡ gap ++ before ++ behind → gap ≡ take_while is_cif_blank rest
@@ -244,7 +249,7 @@ module _ (apart : SentencesAreApart)
       → Sentence rest other xs more → ⊥
   break_sentence rest gap before behind other xs more e g b a =
       let s = one_split rest other (xs ++ more) gap (before ++ behind) a.split (split_taken rest gap (before ++ behind) (e
-          ∙ append_assoc gap before behind) g) in
+      ∙ append_assoc gap before behind) g) in
       apart.no_break xs more before behind a.sentence b s.1
 
   cut_sentence : (rest gap bytes other xs more : List ℕ) → rest ≡ gap ++ bytes → gap ≡ take_while is_cif_blank rest → CutsCommand bytes
@@ -256,20 +261,20 @@ module _ (apart : SentencesAreApart)
   command_end : (rest gap behind : List ℕ) (h : CommandHere rest) → rest ≡ gap ++ codes "E" ++ behind → AreCifBlanks gap → ⊥
   command_end rest gap behind h e b =
       command_no_end h.bytes (agree apart rest h.gap gap (h.bytes ++ codes ";") (codes "E") h.behind behind (command_here rest h)
-          (end_here rest gap behind e b)).sentences
+      (end_here rest gap behind e b)).sentences
 
   command_word : (rest gap word behind : List ℕ) (h : CommandHere rest) → rest ≡ gap ++ word ++ behind → AreCifBlanks gap
       → (word ≡ codes "R") ⊎ (word ≡ codes "DD") → ⊥
   command_word rest gap word behind h e b w =
       command_no_word h.bytes word w
       (agree apart rest h.gap gap (h.bytes ++ codes ";") word h.behind behind (command_here rest h)
-          (word_here rest gap word behind e b w)).sentences
+      (word_here rest gap word behind e b w)).sentences
 
   word_end : (rest gap word behind other more : List ℕ) → rest ≡ gap ++ word ++ behind → AreCifBlanks gap → (word ≡ codes "R") ⊎ (word ≡ codes "DD")
       → rest ≡ other ++ codes "E" ++ more → AreCifBlanks other → ⊥
   word_end rest gap word behind other more e b w f c =
       word_no_end word w (agree apart rest gap other word (codes "E") behind more (word_here rest gap word behind e b w)
-          (end_here rest other more f c)).sentences
+      (end_here rest other more f c)).sentences
 
   both_ways : (o : Option CifOpening) → IsSome o → IsNone o → ⊥
   both_ways o some none = let z : true ≡ false = sym some ∙ none in cc
@@ -284,7 +289,7 @@ module _ (apart : SentencesAreApart)
       → (code ≡ other) × (at ≡ to)
   same_fault s front rest _ _ _ _ (breaks gap before behind e g b) (breaks gap' before' behind' e' g' b') =
       let x = one_split rest gap (before ++ behind) gap' (before' ++ behind') (split_taken rest gap (before ++ behind) (e
-          ∙ append_assoc gap before behind) g)
+      ∙ append_assoc gap before behind) g)
       (split_taken rest gap' (before' ++ behind') (e' ∙ append_assoc gap' before' behind') g') in
       (refl, prefixed front gap gap' before before' x.0 (apart.one_break before behind before' behind' b b' x.1))
   same_fault s front rest _ _ _ _ (breaks gap before behind e g b) (cuts gap' bytes e' g' c) = absurd
@@ -314,9 +319,11 @@ module _ (apart : SentencesAreApart)
       absurd (break_sentence rest gap' before behind gap word more e' g' b' (word_here rest gap word more e b w))
   same_fault s front rest _ _ _ _ (outside gap word more e b w) (cuts gap' bytes e' g' c) =
       absurd (cut_sentence rest gap' bytes gap word more e' g' c (word_here rest gap word more e b w))
-  same_fault s front rest _ _ _ _ (outside gap word more e b w) (outside gap' word' more' e' b' w') =
-      (refl, ap (λ (l : List ℕ). front ++ l) (agree apart rest gap gap' word word' more more' (word_here rest gap word more e b w)
-          (word_here rest gap' word' more' e' b' w')).gaps)
+  same_fault s front rest _ _ _ _ (outside gap word more e b w) (outside gap' word' more' e' b' w') = (
+    refl,
+    ap (λ (l : List ℕ). front ++ l) (agree apart rest gap gap' word word' more more' (word_here rest gap word more e b w)
+        (word_here rest gap' word' more' e' b' w')).gaps,
+  )
   same_fault s front rest _ _ _ _ (outside gap word more e b w) (meets h code m l) = absurd (command_word rest gap word more h e b w)
   same_fault s front rest _ _ _ _ (outside gap word more e b w) (end_within gap' more' e' b' o) = absurd
       (word_end rest gap word more gap' more' e b w e' b')
@@ -342,9 +349,11 @@ module _ (apart : SentencesAreApart)
   same_fault s front rest _ _ _ _ (end_within gap more e b o) (outside gap' word more' e' b' w) = absurd
       (word_end rest gap' word more' gap more e' b' w e b)
   same_fault s front rest _ _ _ _ (end_within gap more e b o) (meets h code m l) = absurd (command_end rest gap more h e b)
-  same_fault s front rest _ _ _ _ (end_within gap more e b o) (end_within gap' more' e' b' o') =
-      (refl, ap (λ (l : List ℕ). front ++ l) (agree apart rest gap gap' (codes "E") (codes "E") more more' (end_here rest gap more e b)
-          (end_here rest gap' more' e' b')).gaps)
+  same_fault s front rest _ _ _ _ (end_within gap more e b o) (end_within gap' more' e' b' o') = (
+    refl,
+    ap (λ (l : List ℕ). front ++ l) (agree apart rest gap gap' (codes "E") (codes "E") more more' (end_here rest gap more e b)
+        (end_here rest gap' more' e' b')).gaps,
+  )
   same_fault s front rest _ _ _ _ (end_within gap more e b o) (behind_end gap' blanks byte others e' b' o' k n) = absurd (both_ways s.opening o o')
   same_fault s front rest _ _ _ _ (behind_end gap blanks byte others e b o k n) (breaks gap' before behind e' g' b') =
       absurd (break_sentence rest gap' before behind gap (codes "E") (blanks ++ byte ∷ others) e' g' b'
@@ -414,7 +423,7 @@ module _ (apart : SentencesAreApart)
   moved_to next other front front' rest rest' code place s f r d =
       subst (λ (v : CifState). RefusedFrom v front rest code place) (sym s)
       (subst (λ (l : List ℕ). RefusedFrom other l rest code place) (sym f) (subst (λ (l : List ℕ). RefusedFrom other front' l code place)
-          (sym r) d))
+      (sym r) d))
 
   one_last : (s : CifState) (front rest : List ℕ) (last other : CifState) → DrawsFrom s front rest last → DrawsFrom s front rest other
       → last ≡ other
@@ -425,7 +434,7 @@ module _ (apart : SentencesAreApart)
       let o = same_next s next next' front rest read read' in
       one_last next (front_with front rest read.here) read.here.behind last last' d
       (moved_on next next' (front_with front rest read.here) (front_with front rest read'.here) read.here.behind read'.here.behind last' o.states
-          o.fronts o.behind d')
+      o.fronts o.behind d')
 
   not_both : (s : CifState) (front rest : List ℕ) (last : CifState) (code : CifCode) (place : Place) → DrawsFrom s front rest last
       → RefusedFrom s front rest code place → ⊥
@@ -436,7 +445,7 @@ module _ (apart : SentencesAreApart)
       let o = same_next s next next' front rest read read' in
       not_both next (front_with front rest read.here) read.here.behind last code place d
       (moved_to next next' (front_with front rest read.here) (front_with front rest read'.here) read.here.behind read'.here.behind code place
-          o.states o.fronts o.behind r)
+      o.states o.fronts o.behind r)
 
   one_code : (s : CifState) (front rest : List ℕ) (code other : CifCode) (place there : Place) → RefusedFrom s front rest code place
       → RefusedFrom s front rest other there
@@ -451,7 +460,7 @@ module _ (apart : SentencesAreApart)
       let o = same_next s next next' front rest read read' in
       one_code next (front_with front rest read.here) read.here.behind code other place there r
       (moved_to next next' (front_with front rest read.here) (front_with front rest read'.here) read.here.behind read'.here.behind other there
-          o.states o.fronts o.behind q)
+      o.states o.fronts o.behind q)
 
   pub texts_read_once : TextsHaveOneReading
   texts_read_once = record {

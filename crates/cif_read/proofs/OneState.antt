@@ -1,8 +1,6 @@
 -- A command leads to one state.
-use Rattle.std.specs.Prelude.{⊤}
-use Rattle.std.proofs.Common.{◌≡◌, ◌≢◌, ◌⊎◌, inl, inr, ℕ, Bool, true, false, ℤ, pos, ◌*ℤ◌, List, [], ◌∷◌, ◌++◌, Option, Some, None, is_some, IfSome, codes, refl, sym, ◌∙◌, ap, subst, arith}
+use Rattle.std.proofs.Common.{◌≡◌, inl, inr, ℕ, true, false, ℤ, pos, ◌*ℤ◌, List, [], ◌∷◌, ◌++◌, Option, Some, None, is_some, IfSome, codes, refl, sym, ◌∙◌, ap, arith}
 use Rattle.std.proofs.lemmas.Int.{ints}
-use Rattle.std.proofs.lemmas.List.{append-nil}
 use Rattle.rx_text.specs.Role.{NamedRole, bears_name}
 use Rattle.rx_text.specs.declared.pad_name.Role.{Role}
 use Rattle.rx_text.specs.declared.pad_name.Role.TheVariants.{Vdd, Gnd, Phi1, Phi2, Reset, Input, Output}
@@ -16,8 +14,8 @@ use Rattle.geom.specs.declared.cif_code.CifCode.TheVariants.{C3, C4}
 use Rattle.geom.specs.Squares.{BoxShape}
 use Rattle.geom.specs.CifShapes.{ArePolygonBoxes}
 use Rattle.geom.specs.CifCommands.{CifCommand, Empty, Comment, Opens, Closes, CallsSymbol, SetsLayer, DrawsBox, DrawsPolygon, DrawsWire, Extension, WritesSigned}
-use Rattle.geom.specs.CifLabels.{layer_word, pad_word, own_word, label_word, IsPadName, NamesPad, IsLabel}
-use Rattle.geom.specs.CifDrawings.{CifSymbol, CifState, symbol_of, scale_of, CommandLeads, drawn_in, labelled_state, chain_of_call}
+use Rattle.geom.specs.CifLabels.{layer_word, pad_word, own_word, label_word, IsPadName, IsLabel}
+use Rattle.geom.specs.CifDrawings.{CifState, symbol_of, CommandLeads, drawn_in, labelled_state, chain_of_call}
 use Rattle.geom.specs.CifCodes.{MeetsCode}
 use Rattle.cif_read.proofs.Runs.{heads, tails, one_signed}
 
@@ -101,7 +99,7 @@ first_word e = cc
 label_one : (text : List ℕ) (l m : Label) → IsLabel text l → IsLabel text m → l ≡ m
 label_one text l m a b =
     let e : codes "94" ∷ label_word l.pad ∷ a.x ∷ a.y ∷ layer_word l.layer ∷ [] ≡ codes "94" ∷ label_word m.pad ∷ b.x ∷ b.y ∷ layer_word m.layer
-        ∷ [] =
+    ∷ [] =
     sym a.names.1 ∙ b.names.1 in
     let words : a.x ∷ a.y ∷ layer_word l.layer ∷ [] ≡ b.x ∷ b.y ∷ layer_word m.layer ∷ [] = later_words e in
     let pad : l.pad ≡ m.pad = pad_one l.pad m.pad a.names.0 b.names.0 (second_word e) in
@@ -122,7 +120,7 @@ same_of (Some x) f a b some h k = h ∙ sym k
 
 polygon_of : (o : Option Layer) (points : List Point) (a b : List BoxShape)
     → ((layer : Layer) (points : List Point) (boxes others : List BoxShape) → ArePolygonBoxes layer points boxes
-        → ArePolygonBoxes layer points others → boxes ≡ others)
+    → ArePolygonBoxes layer points others → boxes ≡ others)
     → (o ≡ None → ⊥) → IfSome o (λ layer. ArePolygonBoxes layer points a) → IfSome o (λ layer. ArePolygonBoxes layer points b) → a ≡ b
 polygon_of None points a b one some h k = absurd (some refl)
 polygon_of (Some layer) points a b one some h k = one layer points a b h k
@@ -131,7 +129,7 @@ polygon_of (Some layer) points a b one some h k = one layer points a b h k
 pub one_state : ((layer : Layer) (points : List Point) (boxes others : List BoxShape) → ArePolygonBoxes layer points boxes
     → ArePolygonBoxes layer points others → boxes ≡ others)
     → (s : CifState) (place : Place) (c : CifCommand) (next other : CifState) → ((code : CifCode) → MeetsCode code s c → ⊥)
-        → CommandLeads s place c next
+    → CommandLeads s place c next
     → CommandLeads s place c other → next ≡ other
 one_state one s place Empty next other clear a b = a ∙ sym b
 one_state one s place Comment next other clear a b = a ∙ sym b

@@ -1,12 +1,12 @@
 -- Runs of bytes, and the numbers that they write.
 use Rattle.std.specs.Prelude.{⊤}
-use Rattle.std.proofs.Common.{◌≡◌, ◌≢◌, ◌⊎◌, inl, inr, ℕ, ◌≤◌, ◌==◌, Bool, true, false, not, ◌&&◌, ◌||◌, ℤ, pos, neg_ℤ, List, [], ◌∷◌, ◌++◌, refl, sym, ◌∙◌, ap, subst, append_assoc, arith}
+use Rattle.std.proofs.Common.{◌≡◌, inl, inr, ℕ, ◌==◌, Bool, true, false, not, ◌&&◌, ◌||◌, ℤ, pos, neg_ℤ, List, [], ◌∷◌, ◌++◌, refl, sym, ◌∙◌, ap, subst, arith}
 use Rattle.std.specs.List.{list_all}
 use Rattle.std.specs.Str.Parse.{digits_value}
 use Rattle.std.proofs.lemmas.Bool.{false_from_ne_true}
 use Rattle.std.proofs.lemmas.Bool.Decides.{nat_tests}
 use Rattle.rx_text.specs.NumberInText.{is_digit}
-use Rattle.geom.specs.CifCommands.{AreCifBlanks, is_cif_blank, is_capital, WritesNumber, WritesSigned}
+use Rattle.geom.specs.CifCommands.{is_cif_blank, is_capital, WritesNumber, WritesSigned}
 
 -- the first byte, if there is one, does not pass
 abbrev pub Fails : (ℕ → Bool) → List ℕ → Type 0

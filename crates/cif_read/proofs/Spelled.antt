@@ -1,11 +1,9 @@
 -- Bytes are of one command: its parts are read off them one by one.
 use Rattle.std.specs.Prelude.{⊤}
-use Rattle.std.proofs.Common.{◌≡◌, ◌≢◌, ◌⊎◌, inl, inr, ℕ, ◌==◌, Bool, true, false, cond, ◌&&◌, ◌||◌, ℤ, List, [], ◌∷◌, ◌++◌, flat_map, Option, Some, None, codes, refl, sym, ◌∙◌, ap, subst, append_assoc, arith}
-use Rattle.std.specs.List.{list_all}
-use Rattle.std.proofs.lemmas.List.{append-nil}
+use Rattle.std.proofs.Common.{◌≡◌, ◌≢◌, inl, inr, ℕ, ◌==◌, Bool, true, false, cond, ◌&&◌, ◌||◌, ℤ, List, [], ◌∷◌, ◌++◌, flat_map, Option, Some, None, codes, refl, sym, ◌∙◌, ap, append_assoc, arith}
 use Rattle.rx_text.specs.NumberInText.{is_digit}
 use Rattle.geom.specs.declared.point.Point.{Point}
-use Rattle.geom.specs.CifCommands.{CifScale, CifMove, Translates, MirrorsX, MirrorsY, Rotates, CifCommand, Empty, Comment, Opens, Closes, CallsSymbol, SetsLayer, DrawsBox, DrawsPolygon, DrawsWire, Extension, CifPart, Letters, Unsigned, Signed, AreCifBlanks, is_cif_blank, is_capital, WritesNumber, SpellsPart, is_number_part, needs_blank, PartThen, SpellsParts, point_parts, scale_parts, direction_parts, move_parts, command_parts, IsShortName, IsComment, IsExtension, SpellsCommand}
+use Rattle.geom.specs.CifCommands.{CifScale, CifMove, Translates, MirrorsX, MirrorsY, Rotates, CifCommand, Empty, Comment, Opens, Closes, CallsSymbol, SetsLayer, DrawsBox, DrawsPolygon, DrawsWire, Extension, CifPart, Letters, Unsigned, Signed, AreCifBlanks, is_cif_blank, is_capital, WritesNumber, SpellsPart, is_number_part, needs_blank, PartThen, SpellsParts, point_parts, scale_parts, direction_parts, move_parts, command_parts, IsShortName, IsExtension, SpellsCommand}
 use Rattle.cif_read.proofs.Runs.{Fails, fails_at, heads, tails, all_first, one_run, blank_no_digit, blank_no_capital, capital_no_blank, digits_begin, signed_begins, one_number, one_signed, digit_no_blank}
 
 -- the bytes with a semicolon
@@ -59,7 +57,7 @@ number_on p q needs need More Rest bytes others s t h e f g k l =
 -- the same letter, and the same bytes behind it
 letter_on : (b c : ℕ) (needs need : Bool) (More Rest : List ℕ → Type 0) (bytes others : List ℕ) (s : PartThen (Letters (b ∷ [])) needs More bytes)
     (t : PartThen (Letters (c ∷ [])) need Rest others) → closed bytes ≡ closed others → Fails is_cif_blank (closed s.rest) → Fails is_cif_blank
-        (closed t.rest)
+    (closed t.rest)
     → (b ≡ c) × (closed s.rest ≡ closed t.rest)
 letter_on b c needs need More Rest bytes others s t e k l =
     let a : b ∷ (s.gap ++ closed s.rest) ≡ c ∷ (t.gap ++ closed t.rest) =
@@ -71,9 +69,11 @@ letter_on b c needs need More Rest bytes others s t e k l =
 -- the first byte of a part that begins with this letter
 letter_first : (b : ℕ) (word : List ℕ) (needs : Bool) (More : List ℕ → Type 0) (bytes : List ℕ) → PartThen (Letters (b ∷ word)) needs More bytes
     → (more : List ℕ) × (closed bytes ≡ b ∷ more)
-letter_first b word needs More bytes s =
-    (word ++ (s.gap ++ closed s.rest), parted (Letters (b ∷ word)) needs More bytes s ∙ ap (λ (w : List ℕ). w ++
-        (s.gap ++ closed s.rest)) s.spelled)
+letter_first b word needs More bytes s = (
+  word ++ (s.gap ++ closed s.rest),
+  parted (Letters (b ∷ word)) needs More bytes s ∙ ap (λ (w : List ℕ). w ++
+      (s.gap ++ closed s.rest)) s.spelled,
+)
 
 -- ---- numbers alone
 
@@ -238,26 +238,26 @@ then_begins : (z : ℤ) (needs : Bool) (More : List ℕ → Type 0) (bytes : Lis
     (closed bytes)
 then_begins z needs More bytes s =
     fails_at is_cif_blank (s.word ++ (s.gap ++ closed s.rest)) (closed bytes) (sym (parted (Signed z) needs More bytes s))
-        (signed_begins z s.word (s.gap ++ closed s.rest) s.spelled)
+    (signed_begins z s.word (s.gap ++ closed s.rest) s.spelled)
 
 -- a letter and two numbers, with transformations behind them
 pair_on : (b c : ℕ) (x y z w : ℤ) (ms ns : List CifMove) (bytes others : List ℕ)
     → (s : PartThen (Letters (b ∷ [])) false (PartThen (Signed x) true (PartThen (Signed y) (needs_blank (Signed y) (flat_map move_parts ms))
-        (SpellsParts (flat_map move_parts ms)))) bytes)
+    (SpellsParts (flat_map move_parts ms)))) bytes)
     → (t : PartThen (Letters (c ∷ [])) false (PartThen (Signed z) true (PartThen (Signed w) (needs_blank (Signed w) (flat_map move_parts ns))
-        (SpellsParts (flat_map move_parts ns)))) others)
+    (SpellsParts (flat_map move_parts ns)))) others)
     → closed bytes ≡ closed others
     → (b ≡ c) × (x ≡ z) × (y ≡ w) × (closed s.more.more.rest ≡ closed t.more.more.rest)
 pair_on b c x y z w ms ns bytes others s t e =
     let l = letter_on b c false false _ _ bytes others s t e (then_begins x true _ s.rest s.more) (then_begins z true _ t.rest t.more) in
     let f = number_on (Signed x) (Signed z) true true _ _ s.rest t.rest s.more t.more tt l.1 (λ g. absurd (s.more.apart refl g)) (λ g. absurd
-        (t.more.apart refl g))
+    (t.more.apart refl g))
     (then_begins y (needs_blank (Signed y) (flat_map move_parts ms)) _ s.more.rest s.more.more) (then_begins w (needs_blank (Signed w)
-        (flat_map move_parts ns)) _ t.more.rest t.more.more) in
+    (flat_map move_parts ns)) _ t.more.rest t.more.more) in
     let g = number_on (Signed y) (Signed w) (needs_blank (Signed y) (flat_map move_parts ms)) (needs_blank (Signed w)
-        (flat_map move_parts ns)) _ _ s.more.rest t.more.rest
+    (flat_map move_parts ns)) _ _ s.more.rest t.more.rest
     s.more.more t.more.more tt f.1 (λ h. moves_no_digit ms s.more.more.rest s.more.more.more)
-        (λ h. moves_no_digit ns t.more.more.rest t.more.more.more)
+    (λ h. moves_no_digit ns t.more.more.rest t.more.more.more)
     (moves_no_blank ms s.more.more.rest s.more.more.more) (moves_no_blank ns t.more.more.rest t.more.more.more) in
     let xz : x ≡ z = signed_same f.0 in
     let yw : y ≡ w = signed_same g.0 in
@@ -280,7 +280,7 @@ mirror_on b c ms ns bytes others s t p q e =
     let l = letter_on 77 77 false false _ _ bytes others s t e (fails_at is_cif_blank (b ∷ k.0) (closed s.rest) (sym k.1) p)
     (fails_at is_cif_blank (c ∷ j.0) (closed t.rest) (sym j.1) q) in
     letter_on b c (needs_blank (Letters (b ∷ [])) (flat_map move_parts ms)) (needs_blank (Letters (c ∷ []))
-        (flat_map move_parts ns)) _ _ s.rest t.rest
+    (flat_map move_parts ns)) _ _ s.rest t.rest
     s.more t.more l.1 (moves_no_blank ms s.more.rest s.more.more) (moves_no_blank ns t.more.rest t.more.more)
 
 moves_same : (ms ns : List CifMove) (bytes others : List ℕ) → SpellsParts (flat_map move_parts ms) bytes → SpellsParts
@@ -324,7 +324,7 @@ cut_left (b ∷ w) xs ys e = cut_left w xs ys (tails e)
 -- the same bytes behind the same letters
 word_on : (w : List ℕ) (needs need : Bool) (More Rest : List ℕ → Type 0) (bytes others : List ℕ) (s : PartThen (Letters w) needs More bytes)
     (t : PartThen (Letters w) need Rest others) → closed bytes ≡ closed others → Fails is_cif_blank (closed s.rest) → Fails is_cif_blank
-        (closed t.rest)
+    (closed t.rest)
     → closed s.rest ≡ closed t.rest
 word_on w needs need More Rest bytes others s t e k l =
     let a : w ++ (s.gap ++ closed s.rest) ≡ w ++ (t.gap ++ closed t.rest) =
@@ -332,7 +332,7 @@ word_on w needs need More Rest bytes others s t e k l =
     ∙ (sym (parted (Letters w) needs More bytes s) ∙ (e ∙ (parted (Letters w) need Rest others t
     ∙ ap (λ (v : List ℕ). v ++ (t.gap ++ closed t.rest)) t.spelled))) in
     (one_run is_cif_blank s.gap t.gap (closed s.rest) (closed t.rest) s.blanks t.blanks k l (cut_left w (s.gap ++ closed s.rest)
-        (t.gap ++ closed t.rest) a)).1
+    (t.gap ++ closed t.rest) a)).1
 
 -- letters and then numbers
 numbers_behind : (w : List ℕ) (p q : CifPart) (ps qs : List CifPart) (bytes others : List ℕ) → Aligned (p ∷ ps) (q ∷ qs) → SpellsParts
@@ -355,7 +355,7 @@ scales_aligned (Some a) (Some b) = (tt, (tt, tt))
 same_scale : (a b : CifScale) → a.times ≡ b.times → a.per ≡ b.per → a ≡ b
 same_scale a b t p =
     ap (λ (v : ℕ). let r : CifScale = record { times = v; per = a.per } in r) t ∙ ap (λ
-        (v : ℕ). let r : CifScale = record { times = b.times; per = v } in r) p
+    (v : ℕ). let r : CifScale = record { times = b.times; per = v } in r) p
 
 same_scales : (a b : Option CifScale) → scale_parts a ≡ scale_parts b → a ≡ b
 same_scales None None e = refl
@@ -401,7 +401,7 @@ calls_same n m ms ns bytes others s t e =
         (closed bytes)
     number_first n needs More bytes s =
         fails_at is_cif_blank (s.word ++ (s.gap ++ closed s.rest)) (closed bytes) (sym (parted (Unsigned n) needs More bytes s))
-            (digits_begin n s.word (s.gap ++ closed s.rest) s.spelled)
+        (digits_begin n s.word (s.gap ++ closed s.rest) s.spelled)
 
 -- a name of a layer
 abbrev is_name_byte : ℕ → Bool
@@ -436,7 +436,7 @@ layers_same name other bytes others a b s t e =
     first name bytes h s =
         fails_at is_cif_blank (s.word ++ (s.gap ++ closed s.rest)) (closed bytes) (sym (parted (Letters name) false _ bytes s))
         (fails_at is_cif_blank (name ++ (s.gap ++ closed s.rest)) (s.word ++ (s.gap ++ closed s.rest)) (ap (λ (v : List ℕ). v ++
-            (s.gap ++ closed s.rest)) (sym s.spelled))
+        (s.gap ++ closed s.rest)) (sym s.spelled))
         (name_begins name (s.gap ++ closed s.rest) h))
 
     last : (gap rest : List ℕ) → AreCifBlanks gap → rest ≡ [] → Fails is_name_byte (gap ++ closed rest)
@@ -503,7 +503,7 @@ starts (Extension text) bytes s = by text s.0 s.1
     by [] e x = absurd x
     by (d ∷ ds) e x =
         starts_at (Extension text) bytes (d ∷ closed ds) (ap closed e) (ap (λ (v : Bool). cond v 10 (cond (d == 68) (second (closed ds)) d)) x.0)
-            (digit_no_blank d x.0)
+        (digit_no_blank d x.0)
 
 pub first_is_no_blank : (c : CifCommand) (bytes : List ℕ) → SpellsCommand c bytes → Fails is_cif_blank (bytes ++ 59 ∷ [])
 first_is_no_blank c bytes s = (starts c bytes s).no_blank
@@ -529,7 +529,7 @@ one_command c d bytes others s t e =
     by Closes Closes s t z = refl
     by (Opens n a) (Opens m b) s t z =
         let l = numbers_behind (codes "DS") (Unsigned n) (Unsigned m) (scale_parts a) (scale_parts b) bytes others
-            (tt, scales_aligned a b) s.1 t.1 e in
+        (tt, scales_aligned a b) s.1 t.1 e in
         let nm : n ≡ m = cc in
         let ab : scale_parts a ≡ scale_parts b = cc in
         ap (λ (v : ℕ). Opens v a) nm ∙ ap (Opens m) (same_scales a b ab)
@@ -537,7 +537,7 @@ one_command c d bytes others s t e =
     by (SetsLayer name) (SetsLayer other) s t z = layers_same name other bytes others s.0 t.0 s.1 t.1 e
     by (DrawsBox a b p u) (DrawsBox c d q v) s t z =
         let l = numbers_behind (codes "B") (Unsigned a) (Unsigned c) (Unsigned b ∷ point_parts p ++ direction_parts u)
-            (Unsigned d ∷ point_parts q ++ direction_parts v)
+        (Unsigned d ∷ point_parts q ++ direction_parts v)
         bytes others (tt, (tt, (tt, (tt, directions_aligned u v)))) s.1 t.1 e in
         let ac : a ≡ c = cc in
         let bd : b ≡ d = cc in
@@ -556,7 +556,7 @@ one_command c d bytes others s t e =
             (numbers_begin (flat_map point_parts qs) t.rest (points_are_numbers qs) t.more))
     by (DrawsWire a ps) (DrawsWire b qs) s t z =
         let l = numbers_behind (codes "W") (Unsigned a) (Unsigned b) (flat_map point_parts ps) (flat_map point_parts qs) bytes others
-            (tt, points_aligned ps qs) s.1 t.1 e in
+        (tt, points_aligned ps qs) s.1 t.1 e in
         let ab : a ≡ b = cc in
         let pq : flat_map point_parts ps ≡ flat_map point_parts qs = cc in
         ap (λ (n : ℕ). DrawsWire n ps) ab ∙ ap (DrawsWire b) (same_points ps qs pq)

@@ -1,17 +1,17 @@
 -- What is known of the commands so far: the scale, and which numbers are defined.
-use Rattle.std.proofs.Common.{◌≡◌, ◌⊎◌, inl, inr, ℕ, ◌^◌, ◌<◌, ◌≤◌, ◌==◌, ◌||◌, ◌&&◌, nat_le, Bool, true, false, cond, List, [], ◌∷◌, Option, Some, None, IsSome, is_some, refl, sym, ◌∙◌, ap, subst, arith}
+use Rattle.std.proofs.Common.{◌≡◌, inl, inr, ℕ, ◌^◌, ◌<◌, ◌≤◌, ◌==◌, ◌||◌, ◌&&◌, Bool, true, false, cond, List, [], ◌∷◌, Option, Some, None, IsSome, is_some, refl, sym, ◌∙◌, ap, subst, arith}
 use Rattle.std.specs.List.{list_all, list_any, find}
 use Rattle.std.specs.Bool.{Decides}
-use Rattle.std.proofs.lemmas.Bool.{cases_lt, leb-true, ne_eqb, eqb-true, false_from_ne_true}
-use Rattle.geom.specs.CifDrawings.{CifSymbol, CifOpening, CifState, scale_of, symbol_of}
+use Rattle.std.proofs.lemmas.Bool.{cases_lt, leb-true, ne_eqb, false_from_ne_true}
+use Rattle.geom.specs.CifDrawings.{CifSymbol, scale_of, symbol_of}
 use Rattle.geom.specs.CifCodes.{is_opened, is_defined}
-use Rattle.cif_drawing.specs.Parts.{DrawingParts, part_of}
+use Rattle.cif_drawing.specs.Parts.{part_of}
 use Rattle.cif_codes.specs.Scales.{ratio, IsScale}
 use Rattle.cif_codes.specs.declared.scale.Scale.{Scale}
 use Rattle.cif_figures.specs.Figures.{IsNumberFor, Draws}
 use Rattle.cif_read.specs.declared.reader.Open.{Open}
 use Rattle.cif_read.specs.declared.reader.Reader.{Reader}
-use Rattle.cif_read.specs.States.{opening_of, state_of, is_few, IsOpen, AreOpen, IsReader}
+use Rattle.cif_read.specs.States.{opening_of, state_of, is_few, AreOpen, IsReader}
 
 -- ---- the definition that is open
 
@@ -103,13 +103,15 @@ great_undefined r n h great =
 -- the number that stands for another is defined where that one is
 pub same_defined : (r : Reader) (n v : ℕ) → IsReader r → IsNumberFor n v → is_defined (state_of r) v ≡ is_defined (state_of r) n
 same_defined r n v h for = elim (cases_lt (2 ^ 40) n) [
-  inl great ↦ great_undefined r v h (for.great great) ∙ sym (great_undefined r n h great)
-  | inr few ↦ ap (is_defined (state_of r)) (for.exact few) ]
+  | inl great ↦ great_undefined r v h (for.great great) ∙ sym (great_undefined r n h great)
+  | inr few ↦ ap (is_defined (state_of r)) (for.exact few)
+]
 
 pub same_symbol : (r : Reader) (n v : ℕ) → IsReader r → IsNumberFor n v → part_of r.builder v ≡ symbol_of (state_of r) n
 same_symbol r n v h for = elim (cases_lt (2 ^ 40) n) [
-  inl great ↦ none_great r.builder.symbols v h.few (for.great great) ∙ sym (none_great r.builder.symbols n h.few great)
-  | inr few ↦ ap (λ (k : ℕ). part_of r.builder k) (for.exact few) ]
+  | inl great ↦ none_great r.builder.symbols v h.few (for.great great) ∙ sym (none_great r.builder.symbols n h.few great)
+  | inr few ↦ ap (λ (k : ℕ). part_of r.builder k) (for.exact few)
+]
 
 pub decided_by : (t : Bool) (b : Bool) → t ≡ b → Decides t (b ≡ true)
 decided_by t b e = (λ yes. sym e ∙ yes, λ yes. e ∙ yes)

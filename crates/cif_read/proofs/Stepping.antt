@@ -1,12 +1,12 @@
 -- From sentence to sentence.
-use Rattle.std.proofs.Common.{◌≡◌, ◌≢◌, ℕ, ◌+◌, ◌-◌, ◌<◌, ◌≤◌, List, [], ◌∷◌, ◌++◌, length, take, drop, Option, Some, None, codes, refl, sym, ◌∙◌, ap, subst, append_assoc, arith}
+use Rattle.std.proofs.Common.{◌≡◌, ℕ, ◌+◌, ◌-◌, ◌≤◌, List, [], ◌∷◌, ◌++◌, length, take, drop, codes, refl, sym, ◌∙◌, ap, subst, append_assoc, arith}
 use Rattle.std.proofs.lemmas.List.{length-append, length-take-le, length-drop}
 use Rattle.std.proofs.Math.Seq.{take-add}
 use Rattle.rx_text.specs.TextPlace.{place_behind}
 use Rattle.rx_text.specs.declared.place.Place.{Place}
 use Rattle.geom.specs.declared.cif_code.CifCode.{CifCode}
 use Rattle.geom.specs.CifDrawings.{CifState, CifDrawing, blank_state, CommandLeads}
-use Rattle.geom.specs.CifRefusals.{CommandHere, CommandFault, CommandRead, DrawsFrom, RefusedFrom, CifRefusal, IsCifText, front_with}
+use Rattle.geom.specs.CifRefusals.{CommandFault, DrawsFrom, RefusedFrom, CifRefusal, IsCifText, front_with}
 use Rattle.cif_syntax.specs.Ends.{between}
 use Rattle.cif_syntax.specs.Sentences.{IsCommandAt}
 use Rattle.cif_figures.specs.Figures.{IsFaultOf}
@@ -17,8 +17,8 @@ use Rattle.cif_read.specs.declared.reader.Reader.{Reader}
 use Rattle.cif_read.specs.declared.faults.ReadCifFault.{ReadCifFault}
 use Rattle.cif_read.specs.declared.faults.ReadCifFault.TheVariants as fault
 use Rattle.cif_read.specs.Marks.{IsMark, place_of}
-use Rattle.cif_read.specs.States.{state_of, IsReader, IsRead}
-use Rattle.cif_read.specs.Reading.{IsReadCifFault, IsStepFault, StepsTo, Steps, stop_fault}
+use Rattle.cif_read.specs.States.{state_of, IsRead}
+use Rattle.cif_read.specs.Reading.{IsReadCifFault, IsStepFault, StepsTo, stop_fault}
 
 -- ---- places in a text
 
@@ -84,10 +84,10 @@ stepped text mark here next first end old new h m f read is e =
 -- a code stands here, behind this front
 refused_here : (text : List ℕ) (from : ℕ) (s : CifState) (code : CifCode) (place : Place) (behind : List ℕ)
     → CommandFault s (take from text) (drop from text) code behind → place ≡ place_behind behind → RefusedFrom s (take from text)
-        (drop from text) code place
+    (drop from text) code place
 refused_here text from s code place behind f e =
     subst (λ (v : Place). RefusedFrom s (take from text) (drop from text) code v) (sym e) (RefusedFrom.here s (take from text)
-        (drop from text) behind code f)
+    (drop from text) behind code f)
 
 pub syntax_refused : (text : List ℕ) (from at : ℕ) (s : CifState) (code : CifCode) → CommandFault s (take from text) (drop from text) code
     (take at text)
@@ -96,7 +96,7 @@ syntax_refused text from at s code f = refused_here text from s code (place_behi
 
 pub command_refused : (text : List ℕ) (from first end : ℕ) (here : Mark) (old : Reader) (f : FigureFault) (h : IsCommandAt text from first end)
     → IsMark text here → here.at ≡ first → IsFaultOf (state_of old) h.here.command f → IsStepFault text from (state_of old) (stop_fault f
-        (place_of here))
+    (place_of here))
 command_refused text from first end here old figure.NoMemory h m e is = tt
 command_refused text from first end here old (figure.Meets code) h m e is =
     refused_here text from (state_of old) code (place_of here) (take from text ++ h.here.gap)
@@ -119,12 +119,12 @@ pub behind_more : (text : List ℕ) (mark next : Mark) (old new : Reader) → Is
     → IsBehind text next.at (state_of new)
 behind_more text mark next old new b h = record {
   draws = λ last d. b.draws last (DrawsFrom.command (state_of old) (state_of new) last (take mark.at text) (drop mark.at text) h.read
-    (subst (λ (l : List ℕ). DrawsFrom (state_of new) l h.read.here.behind last) (sym h.front_is)
-    (subst (λ (l : List ℕ). DrawsFrom (state_of new) (take next.at text) l last) (sym h.behind_is) d)));
+      (subst (λ (l : List ℕ). DrawsFrom (state_of new) l h.read.here.behind last) (sym h.front_is)
+      (subst (λ (l : List ℕ). DrawsFrom (state_of new) (take next.at text) l last) (sym h.behind_is) d)));
   refuses = λ code place r. b.refuses code place (RefusedFrom.later (state_of old) (state_of new) (take mark.at text)
       (drop mark.at text) code place h.read
-    (subst (λ (l : List ℕ). RefusedFrom (state_of new) l h.read.here.behind code place) (sym h.front_is)
-    (subst (λ (l : List ℕ). RefusedFrom (state_of new) (take next.at text) l code place) (sym h.behind_is) r)));
+      (subst (λ (l : List ℕ). RefusedFrom (state_of new) l h.read.here.behind code place) (sym h.front_is)
+      (subst (λ (l : List ℕ). RefusedFrom (state_of new) (take next.at text) l code place) (sym h.behind_is) r)));
 }
 
 pub whole_refused : (text : List ℕ) (at : ℕ) (s : CifState) (f : ReadCifFault) → IsBehind text at s → IsStepFault text at s f

@@ -1,5 +1,5 @@
 -- Places in a text, by line and column.
-use Rattle.std.specs.Prelude.{◌≡◌, ℕ, ◌+◌, ◌≤◌, ◌==◌, List, length, take, if◌then◌else◌}
+use Rattle.std.specs.Prelude.{◌≡◌, ℕ, ◌+◌, ◌≤◌, List, length, take, if◌then◌else◌}
 use Rattle.rx_text.specs.TextPlace.{place_behind, is_line_feed}
 use Rattle.rx_text.specs.declared.place.Place.{Place}
 use Rattle.rx_text.specs.declared.place.Place.TheVariants.{Text}

@@ -9,8 +9,8 @@ ghost use Rattle.cif_read.specs.States.{IsReader, IsRead, state_of};
 
 use crate::reader::{Open, Reader};
 use cif_figures::{
-    FigureFault, box_drawn, called_number, definition_closed, definition_opened, label_put, layer_set,
-    opened_number, others_lead_on, polygon_drawn, steps_called, wire_drawn,
+    FigureFault, box_drawn, called_number, definition_closed, definition_opened, label_put,
+    layer_set, opened_number, others_lead_on, polygon_drawn, steps_called, wire_drawn,
 };
 use cif_kinds::{CommandKind, command_kind};
 use rx_text::Place;
@@ -148,7 +148,8 @@ impl Reader {
             → IsFaultOf (state_of self.old) (command_of text.now first end kind.Polygon c) fault) }
     {
         let found = polygon_drawn(alloc, text, first, self.scale(), self.layer)?;
-        self.builder.add_polygon(alloc, place, found.layer, &found.points)?;
+        self.builder
+            .add_polygon(alloc, place, found.layer, &found.points)?;
         Ok(())
     }
 

@@ -27,7 +27,10 @@ pub fn flatten(alloc: Global, drawing: &Drawing) -> Result<Flat, ReadCifFault>
 {
     match cif_drawing::flatten(alloc, drawing) {
         Ok(flat) => Ok(flat),
-        Err(FlattenFault::Fault { code, place }) => Err(ReadCifFault::Fault(CifFault { code, place })),
+        Err(FlattenFault::Fault { code, place }) => Err(ReadCifFault::Fault(CifFault {
+            code,
+            place,
+        })),
         Err(FlattenFault::NoMemory) => Err(ReadCifFault::NoMemory),
     }
 }

@@ -23,9 +23,9 @@ returns-clause-read c end k =
     λ l. c.call.new.self ≡ drawn_parts old.builder c.args.place (stepped_boxes l (part_boxes (part_of old.builder c.called_number-number.result)))
     (chain_or_none (part_of old.builder c.called_number-number.result)) old.builder.opening in
     called old c.call.new.self c.args.place (command_of c.args.text.now c.args.first end kind.Calls k) c.in_ok-steps.steps.items n
-        c.called_number-number.result
+    c.called_number-number.result
     c.requires.reader same (c.in_ok-steps.ensures.steps (state_of old) end k c.scale.ensures.scale chain)
-        (subst P c.deref.ensures.value c.in_ok-call.ensures)
+    (subst P c.deref.ensures.value c.in_ok-call.ensures)
 
 pub returns-in_err-steps-clause-fault : goal.returns-in_err-steps-clause-fault
 returns-in_err-steps-clause-fault c =

@@ -12,7 +12,7 @@ pub returns-clause-read : goal.returns-clause-read
 returns-clause-read c text first end k place =
     let P : Option Layer → Type 0 =
     λ l. IsRead c.args.self.now place (command_of text first end kind.Closes k)
-        (record { builder = c.close.new.self; opening = None; layer = l }) in
+    (record { builder = c.close.new.self; opening = None; layer = l }) in
     subst P (sym c.outer_layer-self.ensures)
     (closed c.args.self.now c.close.new.self place (command_of text first end kind.Closes k) c.requires.reader
     (c.in_ok-definition_closed.ensures.closed (state_of c.args.self.now) text first end k c.is_open.ensures) c.in_ok-close.ensures)

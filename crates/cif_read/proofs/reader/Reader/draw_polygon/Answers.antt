@@ -22,4 +22,4 @@ pub returns-in_err-found-clause-fault : goal.returns-in_err-found-clause-fault
 returns-in_err-found-clause-fault c =
     let p = err_from_is_err_and c.from_residual.result c.from_residual.ensures.1 in
     rw (p.1, p.2) (λ end k. c.in_err-found.ensures.fault (state_of c.args.self.now) end k
-        (draws_in c.args.self.now c.scale.result c.scale.ensures.scale))
+    (draws_in c.args.self.now c.scale.result c.scale.ensures.scale))

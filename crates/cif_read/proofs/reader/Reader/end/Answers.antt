@@ -12,4 +12,4 @@ returns-in-Err-clause-fault c =
     let P : ReadCifFault → Type 0 = λ v. IsStepFault c.args.text.now c.args.from s v in
     subst P (sym c.fault_at.ensures)
     (syntax_refused c.args.text.now c.args.from c.in-Err.wrong.at s c.in-Err.wrong.code
-        (c.in-Err.ensures.fault s c.args.from c.is_open.ensures c.requires.stands))
+    (c.in-Err.ensures.fault s c.args.from c.is_open.ensures c.requires.stands))

@@ -1,5 +1,5 @@
 -- It is closed, or open.
-use Rattle.std.proofs.Common.{◌≡◌, ◌==◌, ◌||◌, Bool, true, false, sym, ◌∙◌, ap}
+use Rattle.std.proofs.Common.{◌≡◌, ◌==◌, ◌||◌, Bool, sym, ◌∙◌, ap}
 use Rattle.std.specs.List.{list_any}
 use Rattle.geom.specs.CifCodes.{is_opened}
 use Rattle.cif_read.specs.States.{opening_of}
@@ -19,4 +19,4 @@ returns-else-closed c =
     let any : c.is_defined-closed.result ≡ list_any (λ symbol. symbol.number == c.args.number) old.builder.symbols =
     c.is_defined-closed.ensures ∙ found_any (λ symbol. symbol.number == c.args.number) old.builder.symbols in
     c.is_opened-open.ensures ∙ ap (λ (t : Bool). t || is_opened (opening_of old.builder.opening old.opening) c.args.number)
-        (sym c.if-closed.false ∙ any)
+    (sym c.if-closed.false ∙ any)

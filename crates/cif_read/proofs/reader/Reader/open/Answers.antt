@@ -1,5 +1,5 @@
 -- A definition of a new number opens outside definitions.
-use Rattle.std.proofs.Common.{◌≡◌, ℕ, true, None, IsSome, sym, ◌∙◌, subst}
+use Rattle.std.proofs.Common.{◌≡◌, ℕ, true, None, ◌∙◌, subst}
 use Rattle.std.specs.Bool.{Decides}
 use Rattle.std.proofs.lemmas.Result.{err_from_is_err_and}
 use Rattle.geom.specs.CifCodes.{is_defined}
@@ -19,9 +19,9 @@ returns-clause-read c end k place =
     decided_by c.is_defined-again.result (is_defined (state_of old) n)
     (c.is_defined-again.ensures ∙ same_defined old n c.opened_number.result c.requires.reader (c.opened_number.ensures end k)) in
     opened old c.open.new.self place (command_of c.args.text.now c.args.first end kind.Opens k) c.in_ok-found.found.number
-        c.in_ok-found.found.scale c.requires.reader
+    c.in_ok-found.found.scale c.requires.reader
     c.in_ok-found.ensures.few c.in_ok-found.ensures.scale (c.in_ok-found.ensures.definition
-        (state_of old) end k again c.is_open.ensures) c.open.ensures
+    (state_of old) end k again c.is_open.ensures) c.open.ensures
 
 pub returns-in_err-found-clause-fault : goal.returns-in_err-found-clause-fault
 returns-in_err-found-clause-fault c =
