@@ -1,7 +1,7 @@
 //! CIF texts, and what they draw.
 
 use crate::shapes::{shapes, text_of};
-use cif_read::{CifFault, ReadCifFault, flatten, read_cif};
+use cif_read::{CifFault, Drawing, ReadCifFault, flatten, read_cif};
 use rx_text::Place;
 use std::alloc::Global;
 use std::process::Abort;
@@ -174,9 +174,17 @@ fn refusal(alloc: Global, fault: CifFault) -> Result<String, Fail> {
     }
 }
 
+/// The drawing of the text, or its refusal.
+fn read(alloc: Global, text: &[u8]) -> Result<Result<Drawing, ReadCifFault>, Fail> {
+    if text.len() >= 1 << 20 {
+        return Err("too long".into());
+    }
+    Ok(read_cif(alloc, text))
+}
+
 /// What becomes of a text: the text of its boxes, or of its refusal.
 pub(crate) fn outcome(alloc: Global, text: &[u8]) -> Result<String, Fail> {
-    let drawing = match read_cif(alloc, text) {
+    let drawing = match read(alloc, text)? {
         Ok(drawing) => drawing,
         Err(ReadCifFault::Fault(fault)) => return refusal(alloc, fault),
         Err(ReadCifFault::NoMemory) => return Ok(format!(in alloc; "no memory")?),
@@ -193,7 +201,7 @@ fn draws(rt: &impl Abort, alloc: Global, text: &str, wanted: &str) -> Result<(),
     let (boxes, labels) = shapes(alloc, wanted)?;
     let found = outcome(alloc, text.as_bytes())?;
     assert_eq!(rt; found.as_str(), text_of(alloc, &boxes)?.as_str(), "{text}");
-    if let Ok(drawing) = read_cif(alloc, text.as_bytes()) {
+    if let Ok(drawing) = read(alloc, text.as_bytes())? {
         let flat = flatten(alloc, &drawing).ok().ok_or("no boxes")?;
         assert_eq!(rt; flat.labels.as_slice(), labels.as_slice(), "{text}");
     }

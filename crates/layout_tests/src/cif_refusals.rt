@@ -430,8 +430,8 @@ fn fronts_have_no_end(rt: HostRuntime) -> Result<(), Fail> {
 /// Definitions of which each calls the one before, and a call in the last line.
 fn chain(alloc: Global, inner: &str, links: usize) -> Result<String, Fail> {
     let mut text = format!(in alloc; "DS 1; L NM; {inner} DF;")?;
-    for k in 2..links + 1 {
-        let line = format!(in alloc; "\nDS {k}; C {}; DF;", k - 1)?;
+    for k in 1..links {
+        let line = format!(in alloc; "\nDS {}; C {k}; DF;", k + 1)?;
         text.push_str(line.as_str())?;
     }
     let end = format!(in alloc; "\nC {links};\nE")?;
@@ -460,9 +460,9 @@ fn follows_chains(rt: HostRuntime) -> Result<(), Fail> {
 /// Definitions of which each calls the one before ten times, and a call in the last line.
 fn tenfold(alloc: Global, links: usize) -> Result<String, Fail> {
     let mut text = format!(in alloc; "DS 1; L NM; B 800 800 400 400; DF;")?;
-    for k in 2..links + 1 {
-        let call = format!(in alloc; " C {};", k - 1)?;
-        let first = format!(in alloc; "\nDS {k};")?;
+    for k in 1..links {
+        let call = format!(in alloc; " C {k};")?;
+        let first = format!(in alloc; "\nDS {};", k + 1)?;
         let line = repeated(alloc, first.as_str(), call.as_str(), 10, " DF;")?;
         text.push_str(line.as_str())?;
     }
