@@ -1,4 +1,4 @@
-use Rattle.std.proofs.Common.{◌≡◌, ◌+◌, ◌*◌, length, ap, subst, arith, ◌∙◌}
+use Rattle.std.proofs.Common.{◌≡◌, ◌+◌, ◌*◌, length, ap, arith, ◌∙◌}
 use Rattle.std.specs.Int.{div_ceil}
 use Rattle.star_normal.specs.Tables.{whole}
 use Rattle.star_normal.specs.Trees.{leaves}
