@@ -1,5 +1,5 @@
 -- Every input is accepted by a command, or refused by it for one reason.
-use Rattle.std.proofs.Common.{◌≡◌, ◌⊎◌, inl, inr, ⊎_elim, ℕ, ◌<◌, ◌≤◌, List, length, true, refl, sym, ◌∙◌, ap, arith}
+use Rattle.std.proofs.Common.{◌≡◌, ◌⊎◌, inl, inr, ⊎_elim, ℕ, ◌<◌, ◌≤◌, List, length, true, false, refl, sym, ◌∙◌, ap, arith}
 use Rattle.std.proofs.lemmas.Bool.{cases_lt}
 use Rattle.rx_lang.specs.Specification.{Specification}
 use Rattle.rx_syntax.specs.Accepted.{Accepted}
@@ -13,12 +13,13 @@ use Rattle.rxc_program.specs.Behaviour.{Behaviour, InputsAreJudged, IsAcceptedIn
 use Rattle.rxc_program.specs.Codes.{spec_code}
 use Rattle.rxc_program.specs.Commands.{behaviour}
 use Rattle.rxc_program.specs.Compiling.{compiling}
-use Rattle.rxc_program.specs.Files.{FileKind, most_leaves}
+use Rattle.rxc_program.specs.Files.{FileKind, most_leaves, tree_file}
+use Rattle.rxc_program.specs.Reporting.{demonstrating, reporting}
 use Rattle.rxc_program.specs.Simulating.{simulating}
 use Rattle.rxc_program.specs.declared.status.Code.{Code}
 use Rattle.rxc_program.specs.declared.status.Code.TheVariants.{I1}
 use Rattle.rxc_program.specs.declared.words.Command.{Command}
-use Rattle.rxc_program.specs.declared.words.Command.TheVariants.{Net, Pla, Tree, Sim}
+use Rattle.rxc_program.specs.declared.words.Command.TheVariants.{Net, Pla, Tree, Sim, Report, Demo}
 
 -- each text is accepted or broken for one reason, and never both
 record TextsAreJudged (does : Behaviour) : Type 0 where
@@ -27,6 +28,18 @@ record TextsAreJudged (does : Behaviour) : Type 0 where
   never_both : (text : List ℕ) (code : Code) (place : Place) → does.Accepts text → does.Breaks text code place → ⊥
   one_reason : (text : List ℕ) (one other : Code) (here there : Place) → does.Breaks text one here → does.Breaks text other there
       → (one ≡ other) × (here ≡ there)
+
+-- what reads nothing refuses nothing, and accepts all
+not_refused : (start leaves : ℕ) (text : List ℕ) (code : Code) (place : Place) → IsRefusedInput (demonstrating start leaves) text code place → ⊥
+not_refused start leaves text code place (inl long) = (let clash : false ≡ true = long.2.0 in cc)
+not_refused start leaves text code place (inr broken) = broken.1
+
+demonstrating_judged : (start leaves : ℕ) → InputsAreJudged (demonstrating start leaves)
+demonstrating_judged start leaves = record {
+  either = λ text. inl (record { within = λ long. (let clash : false ≡ true = long.0 in cc); accepts = tt });
+  never_both = λ text code place accepted refused. not_refused start leaves text code place refused;
+  one_reason = λ text one other here there first second. absurd (not_refused start leaves text one here first);
+}
 
 module _ (does : Behaviour) (judged : TextsAreJudged does) where
   one_reason_of : (text : List ℕ) (one other : Code) (here there : Place) → IsRefusedInput does text one here → IsRefusedInput does text other there
@@ -67,6 +80,15 @@ module _
         (first.1 ∙ ap spec_code same.0 ∙ sym second.1, same.1);
   }
 
+  -- `report` accepts and refuses the texts that `tree` does
+  reporting_judged : TextsAreJudged reporting
+  reporting_judged = record {
+    reads = refl;
+    either = (compiling_judged tree_file).either;
+    never_both = (compiling_judged tree_file).never_both;
+    one_reason = (compiling_judged tree_file).one_reason;
+  }
+
   module _ (traces : TraceLaws) (nets : NetLaws) where
     simulating_judged : TextsAreJudged simulating
     simulating_judged = record {
@@ -81,10 +103,25 @@ module _
     judged Pla = inputs_judged (behaviour Pla) (compiling_judged _)
     judged Tree = inputs_judged (behaviour Tree) (compiling_judged _)
     judged Sim = inputs_judged simulating simulating_judged
+    judged Report = inputs_judged reporting reporting_judged
+    judged (Demo start leaves) = demonstrating_judged start leaves
 
--- every command reads its input
-pub is_reading : ((command : Command) → InputsAreJudged (behaviour command)) → (command : Command) → IsReading (behaviour command)
-is_reading judged Net = record { reads = refl; judged = judged Net; answered = λ text output status h. (h.1.spec, h.1.accepted) }
-is_reading judged Pla = record { reads = refl; judged = judged Pla; answered = λ text output status h. (h.1.spec, h.1.accepted) }
-is_reading judged Tree = record { reads = refl; judged = judged Tree; answered = λ text output status h. (h.1.spec, h.1.accepted) }
-is_reading judged Sim = record { reads = refl; judged = judged Sim; answered = λ text output status h. (h.1.vectors, h.1.circuit, h.1.drives) }
+-- a command that reads its input
+pub is_reading : ((command : Command) → InputsAreJudged (behaviour command)) → (command : Command) → (behaviour command).reads ≡ true
+    → IsReading (behaviour command)
+is_reading judged Net e = record { reads = refl; judged = judged Net; answered = λ text output status h. (h.1.spec, h.1.accepted) }
+is_reading judged Pla e = record { reads = refl; judged = judged Pla; answered = λ text output status h. (h.1.spec, h.1.accepted) }
+is_reading judged Tree e = record { reads = refl; judged = judged Tree; answered = λ text output status h. (h.1.spec, h.1.accepted) }
+is_reading judged Sim e = record { reads = refl; judged = judged Sim; answered = λ text output status h. (h.1.vectors, h.1.circuit, h.1.drives) }
+is_reading judged Report e = record { reads = refl; judged = judged Report; answered = λ text output status h. (h.1.spec, h.1.accepted) }
+is_reading judged (Demo start leaves) e = (let clash : false ≡ true = e in absurd (cc))
+
+-- a command that reads nothing refuses nothing
+pub refuses_nothing : (command : Command) → (behaviour command).reads ≡ false → (text : List ℕ) (code : Code) (place : Place)
+    → IsRefusedInput (behaviour command) text code place → ⊥
+refuses_nothing Net e text code place refused = (let clash : true ≡ false = e in cc)
+refuses_nothing Pla e text code place refused = (let clash : true ≡ false = e in cc)
+refuses_nothing Tree e text code place refused = (let clash : true ≡ false = e in cc)
+refuses_nothing Sim e text code place refused = (let clash : true ≡ false = e in cc)
+refuses_nothing Report e text code place refused = (let clash : true ≡ false = e in cc)
+refuses_nothing (Demo start leaves) e text code place refused = not_refused start leaves text code place refused

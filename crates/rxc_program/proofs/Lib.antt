@@ -1,6 +1,7 @@
 pub mod Pieces
 pub mod Names
-pub mod LastWord
+pub mod NamedWords
+pub mod DemoWords
 pub mod Endings
 pub mod DrivenJudged
 pub mod Judged
@@ -8,6 +9,7 @@ pub mod LowLines
 pub mod Telling
 pub mod Files
 pub mod Answered
+pub mod Unread
 pub mod Promised
 pub mod WrittenBoxes
 pub mod TileBoxes
@@ -16,6 +18,7 @@ pub mod WrittenRows
 pub mod PadNames
 pub mod ArrayLabels
 pub mod ArrayFiles
+pub mod Reported
 pub mod Members
 pub mod Levels
 pub mod BoxSides

@@ -2,9 +2,10 @@
 use Rattle.rxc_program.specs.Behaviour.{Behaviour}
 use Rattle.rxc_program.specs.Compiling.{compiling}
 use Rattle.rxc_program.specs.Files.{FileKind, network_file, pla_file, tree_file}
+use Rattle.rxc_program.specs.Reporting.{demonstrating, reporting}
 use Rattle.rxc_program.specs.Simulating.{simulating}
 use Rattle.rxc_program.specs.declared.words.Command.{Command}
-use Rattle.rxc_program.specs.declared.words.Command.TheVariants.{Net, Pla, Tree, Sim}
+use Rattle.rxc_program.specs.declared.words.Command.TheVariants.{Net, Pla, Tree, Sim, Report, Demo}
 
 -- the command that compiles a specification to a file of this kind
 abbrev pub compiler : FileKind → Command
@@ -18,3 +19,5 @@ behaviour Net = compiling network_file
 behaviour Pla = compiling pla_file
 behaviour Tree = compiling tree_file
 behaviour Sim = simulating
+behaviour Report = reporting
+behaviour (Demo start leaves) = demonstrating start leaves

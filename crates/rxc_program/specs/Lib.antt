@@ -1,4 +1,5 @@
 -- Definitions that public contracts cite:
+pub mod DemoWords
 pub mod Words
 pub mod Codes
 pub mod StatusText
@@ -7,6 +8,7 @@ pub mod Endings
 pub mod Files
 pub mod Compiling
 pub mod Simulating
+pub mod Reporting
 pub mod Telling
 pub mod Commands
 pub mod Promises
@@ -14,3 +16,5 @@ pub mod Logged
 -- Definitions that serve private contracts alone:
 pub mod Pieces
 pub mod Serving
+pub mod Naming
+pub mod Measuring
