@@ -3,6 +3,7 @@ pub mod Names
 pub mod LastWord
 pub mod Endings
 pub mod DrivenJudged
+pub mod Extracted
 pub mod Judged
 pub mod LowLines
 pub mod Telling

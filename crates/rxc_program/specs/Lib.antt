@@ -1,11 +1,13 @@
 -- Definitions that public contracts cite:
 pub mod Words
 pub mod Codes
+pub mod LayoutCodes
 pub mod StatusText
 pub mod Behaviour
 pub mod Endings
 pub mod Files
 pub mod Compiling
+pub mod Extracting
 pub mod Simulating
 pub mod Telling
 pub mod Commands

@@ -9,6 +9,7 @@ ghost use Rattle.rxc_program.specs.Promises.{RunsCommand};
 ghost use Rattle.rxc_program.specs.StatusText.{exit_number};
 
 mod drawn;
+mod extract;
 mod input;
 mod laws;
 mod log;

@@ -1,0 +1,4 @@
+mod FlatBoxes
+mod LabelNames
+mod RefusalPlaces
+mod OneReading
