@@ -1,6 +1,7 @@
 pub mod Pieces
 pub mod Names
-pub mod LastWord
+pub mod NamedWords
+pub mod DemoWords
 pub mod Endings
 pub mod DrivenJudged
 pub mod Extracted

@@ -4,9 +4,10 @@ use Rattle.rxc_program.specs.Behaviour.{Behaviour, IsDecided}
 use Rattle.rxc_program.specs.Compiling.{compiling}
 use Rattle.rxc_program.specs.Extracting.{extracting}
 use Rattle.rxc_program.specs.Files.{FileKind, network_file, pla_file, tree_file}
+use Rattle.rxc_program.specs.Reporting.{demonstrating, reporting}
 use Rattle.rxc_program.specs.Simulating.{simulating}
 use Rattle.rxc_program.specs.declared.words.Command.{Command}
-use Rattle.rxc_program.specs.declared.words.Command.TheVariants.{Net, Pla, Tree, Extract, Sim}
+use Rattle.rxc_program.specs.declared.words.Command.TheVariants.{Net, Pla, Tree, Extract, Sim, Report, Demo}
 
 -- the command that compiles a specification to a file of this kind
 abbrev pub compiler : FileKind → Command
@@ -21,6 +22,8 @@ behaviour Pla = compiling pla_file
 behaviour Tree = compiling tree_file
 behaviour Extract = extracting
 behaviour Sim = simulating
+behaviour Report = reporting
+behaviour (Demo start leaves) = demonstrating start leaves
 
 -- the command reads a layout in the text
 abbrev pub HoldsLayout : Command → List ℕ → Type 0

@@ -1,4 +1,5 @@
 -- Definitions that public contracts cite:
+pub mod DemoWords
 pub mod Words
 pub mod Codes
 pub mod LayoutCodes
@@ -9,6 +10,7 @@ pub mod Files
 pub mod Compiling
 pub mod Extracting
 pub mod Simulating
+pub mod Reporting
 pub mod Telling
 pub mod Commands
 pub mod Promises
@@ -16,3 +18,5 @@ pub mod Logged
 -- Definitions that serve private contracts alone:
 pub mod Pieces
 pub mod Serving
+pub mod Naming
+pub mod Measuring

@@ -1,20 +1,31 @@
 -- Which lists of words are commands, and at which word any other list goes wrong.
-use Rattle.std.specs.Prelude.{ℕ, suc, ◌+◌, ◌&&◌, Bool, true, false, List, [], ◌∷◌, Option, Some, None, map, fold, max, find, bytes_eq, codes, option_map, is_some, if◌then◌else◌}
+use Rattle.std.specs.Prelude.{ℕ, suc, ◌+◌, ◌&&◌, Bool, true, false, List, [], ◌∷◌, ◌++◌, Option, Some, None, map, fold, max, find, bytes_eq, codes, option_map, is_some, if◌then◌else◌}
+use Rattle.rxc_program.specs.DemoWords.{is_leaf_count, is_start, number_in}
 use Rattle.rxc_program.specs.declared.words.Command.{Command}
-use Rattle.rxc_program.specs.declared.words.Command.TheVariants.{Net, Pla, Tree, Sim}
+use Rattle.rxc_program.specs.declared.words.Command.TheVariants.{Net, Pla, Tree, Extract, Sim, Report, Demo}
+
+-- the commands that one word names, with it
+abbrev pub lone_commands : List (List ℕ × Command)
+lone_commands =
+    (codes "net", Net) ∷ (codes "pla", Pla) ∷ (codes "tree", Tree) ∷ (codes "extract", Extract) ∷ (codes "sim", Sim) ∷ (codes "report", Report) ∷ []
 
 -- a test for each word of a command, and the command that such words name
 pub record Usage : Type 0 where
   pub tests : List (List ℕ → Bool)
   pub names : List (List ℕ) → Command
 
+abbrev pub lone_usage : List ℕ × Command → Usage
+lone_usage named = record { tests = (λ word. bytes_eq word named.0) ∷ []; names = λ words. named.1 }
+
+-- `demo START LEAVES`
+abbrev pub demo_usage : Usage
+demo_usage = record {
+  tests = (λ word. bytes_eq word (codes "demo")) ∷ is_start ∷ is_leaf_count ∷ [];
+  names = λ words. Demo (number_in words 1) (number_in words 2);
+}
+
 abbrev pub commands : List Usage
-commands =
-    record { tests = bytes_eq (codes "net") ∷ []; names = λ words. Net }
-    ∷ record { tests = bytes_eq (codes "pla") ∷ []; names = λ words. Pla }
-    ∷ record { tests = bytes_eq (codes "tree") ∷ []; names = λ words. Tree }
-    ∷ record { tests = bytes_eq (codes "sim") ∷ []; names = λ words. Sim }
-    ∷ []
+commands = map lone_usage lone_commands ++ demo_usage ∷ []
 
 -- the words are just such as the tests ask for
 abbrev pub fits : List (List ℕ) → List (List ℕ → Bool) → Bool

@@ -8,13 +8,17 @@ ghost use Rattle.rxc_program.specs.Logged.{IsLogged};
 ghost use Rattle.rxc_program.specs.Promises.{RunsCommand};
 ghost use Rattle.rxc_program.specs.StatusText.{exit_number};
 
+mod demo;
+mod demo_words;
 mod drawn;
 mod extract;
+mod figures;
 mod input;
 mod laws;
 mod log;
 mod net;
 mod pla;
+mod report;
 mod sim;
 mod status;
 mod top;
@@ -30,6 +34,8 @@ pub use words::RxWord;
 
 #[cfg(test)]
 mod pla_rows;
+#[cfg(test)]
+mod report_rows;
 #[cfg(test)]
 mod rows;
 #[cfg(test)]

@@ -1,5 +1,6 @@
 //! Runs of the program over memory: each row of the tables, and inputs that are cut or noise.
 use crate::pla_rows::PLA_ROWS;
+use crate::report_rows::REPORT_ROWS;
 use crate::rows::{FAILING, FRONTS, Failing, Input, ONE, Output, ROWS, Row, status_of};
 use crate::sim_rows::{REFUSED_SIM_ROWS, SIM_ROWS};
 use crate::status::Status;
@@ -138,6 +139,11 @@ fn arrays_come_out(rt: HostRuntime) -> Result<(), Fail> {
 #[test]
 fn layouts_of_trees_come_out(rt: HostRuntime) -> Result<(), Fail> {
     rows_come_out(&rt, rt.alloc(), TREE_ROWS)
+}
+
+#[test]
+fn reports_come_out(rt: HostRuntime) -> Result<(), Fail> {
+    rows_come_out(&rt, rt.alloc(), REPORT_ROWS)
 }
 
 /// The run is refused, and writes nothing.

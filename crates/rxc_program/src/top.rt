@@ -4,13 +4,16 @@ ghost use Rattle.std.specs.Prelude.{◌≤◌};
 ghost use Rattle.rxc_program.specs.Commands.{behaviour};
 ghost use Rattle.rxc_program.specs.Endings.{change, CommandRun};
 ghost use Rattle.rxc_program.specs.Logged.{IsLogged};
+ghost use Rattle.rxc_program.specs.Naming.{HasLeafCount};
 ghost use Rattle.rxc_program.specs.Promises.{CompilesAccepted, JudgesInput, ReportsWords, RunsCommand, ShowsLanguages};
 
+use crate::demo::demo;
 use crate::extract::extract;
 use crate::laws::{inputs_are_judged, networks_show_their_languages};
 use crate::log::told;
 use crate::net::net;
 use crate::pla::pla;
+use crate::report::report;
 use crate::sim::sim;
 use crate::status::Status;
 use crate::tree::tree;
@@ -64,6 +67,7 @@ fn run<S: Source, O: Sink>(alloc: Global, words: &[RxWord], src: &mut S, out: &m
 
 /// Serves the command.
 fn serve<S: Source, O: Sink>(alloc: Global, command: Command, src: &mut S, out: &mut O) -> Status
+    requires { HasLeafCount command }
     ensures { CommandRun (behaviour command) (change S.left S.faults src.old src.new) (change O.held O.faults out.old out.new) result }
 {
     match command {
@@ -72,5 +76,7 @@ fn serve<S: Source, O: Sink>(alloc: Global, command: Command, src: &mut S, out: 
         Command::Tree => tree(alloc, src, out),
         Command::Extract => extract(alloc, src, out),
         Command::Sim => sim(alloc, src, out),
+        Command::Report => report(alloc, src, out),
+        Command::Demo { start, leaves } => demo(alloc, start, leaves, out),
     }
 }

@@ -1,6 +1,6 @@
 // The command `tree`: a specification in, the CIF text of its tree-shaped layout out.
 
-ghost use Rattle.std.specs.Prelude.{◌≡◌, ◌<◌, ◌≤◌, true, length, All, IfErr, IfOk, OnOk};
+ghost use Rattle.std.specs.Prelude.{◌≡◌, ◌<◌, ◌≤◌, ◌^◌, true, length, All, IfErr, IfOk, OnOk};
 ghost use Rattle.rx_text.specs.Name.{is_name};
 ghost use Rattle.rx_lang.specs.Specification.{MatchesSymbol};
 ghost use Rattle.rx_lang.specs.Tables.{IsSpecification, specification};
@@ -15,15 +15,17 @@ ghost use Rattle.rxc_program.specs.Behaviour.{most_input_bytes};
 ghost use Rattle.rxc_program.specs.Compiling.{BreaksSpecification, compiling, IsCompiled};
 ghost use Rattle.rxc_program.specs.Endings.{change, CommandRun};
 ghost use Rattle.rxc_program.specs.Files.{IsFileOf, most_leaves, tree_file};
+ghost use Rattle.rxc_program.specs.Measuring.{HasBox};
+ghost use Rattle.rxc_program.specs.Reporting.{AreSidesOf};
 ghost use Rattle.rxc_program.specs.Serving.{AnswersText, StopsBy, TakesPiece};
 
 use crate::drawn::{DrawnTree, WrittenChip};
 use crate::input::{read_input, specification};
 use crate::status::Status;
 use cell_network::cells;
-use chip_box::rectangles_exist;
+use chip_box::{box_of, rectangles_exist};
 use cif_write::{chip_texts_draw, write_cif};
-use geom::Chip;
+use geom::{Chip, Rect};
 use nmos_model::laws::equal_drawings_are_alike;
 use nor_net::to_switch;
 use report_text::sides_bound_the_area;
@@ -82,7 +84,8 @@ fn layout_chip(alloc: Global, spec: &Spec) -> Result<Chip, NoMemory>
     requires tables { IsSpecification spec.now }
     requires lines { All (λ name. is_name name ≡ true) spec.now.lines }
     requires outputs { All (λ name. is_name name ≡ true) spec.now.outputs }
-    ensures { IfOk result (λ chip. IsFileOf tree_file (specification spec.now) (chip_text chip)) }
+    ensures file { IfOk result (λ chip. IsFileOf tree_file (specification spec.now) (chip_text chip)) }
+    ensures measured { IfOk result (λ chip. HasBox chip) }
 {
     tables_have_the_leaves_of_their_trees();
     trees_recognise();
@@ -94,6 +97,19 @@ fn layout_chip(alloc: Global, spec: &Spec) -> Result<Chip, NoMemory>
     cells_recognise(alloc, &tree, spec)?;
     let blocks = layout(alloc, &tree)?;
     chip(alloc, &blocks, &tree, spec)
+}
+
+/// The box of the chip whose text `tree` writes for the specification.
+pub(crate) fn layout_box(alloc: Global, spec: &Spec) -> Result<Rect, NoMemory>
+    requires tables { IsSpecification spec.now }
+    requires lines { All (λ name. is_name name ≡ true) spec.now.lines }
+    requires outputs { All (λ name. is_name name ≡ true) spec.now.outputs }
+    ensures sides { IfOk result (λ r. AreSidesOf (specification spec.now) r.width r.height) }
+    ensures narrow { IfOk result (λ r. r.width < 2 ^ 32) }
+    ensures low { IfOk result (λ r. r.height < 2 ^ 32) }
+{
+    let chip = layout_chip(alloc, spec)?;
+    Ok(box_of(&chip))
 }
 
 /// The network of the tree's cells recognises the languages of the specification. It is made for what its contract tells of it, and
