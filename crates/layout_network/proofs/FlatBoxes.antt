@@ -61,7 +61,7 @@ few_from before (stroke ∷ strokes) clear few =
 
 -- commands with no fault draw few boxes
 pub few_boxes : (strokes : List CifStroke) → NoStrokeFault [] strokes → length (stroke_boxes strokes) ≤ most_boxes
-few_boxes strokes clear = few_from [] strokes clear (omega arith)
+few_boxes strokes clear = let few = few_from [] strokes clear (omega arith) in omega (arith, few)
 
 -- ---- refusals
 

@@ -82,7 +82,7 @@ first_named earlier (label ∷ labels) named =
   where
     by_name : (known : Bool) → BearNames (first_labels (earlier ++ label ∷ []) labels)
         → BearNames (if known then first_labels (earlier ++ label ∷ []) labels else label ∷ first_labels (earlier ++ label ∷ []) labels)
-    by_name true rest = rest
+    by_name true rest l at = rest l at
     by_name false rest l (inl e) = subst (λ (k : Label). IsPadName k.pad) e (named label (inl refl))
     by_name false rest l (inr at) = rest l at
 

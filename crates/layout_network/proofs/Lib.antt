@@ -1,4 +1,4 @@
 mod FlatBoxes
 mod LabelNames
-mod RefusalPlaces
 mod OneReading
+mod Read
