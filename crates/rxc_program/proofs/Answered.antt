@@ -39,15 +39,20 @@ module _ {Sink : Type 0} (sink : Change Sink) (text : List ℕ) where
   stopped does WriteFault untouched stops = absurd stops
   stopped does NoMemory untouched stops = inl untouched
 
+  -- an output is written as one piece
+  module _ (does : Behaviour) (output : List ℕ) (outputs : does.Outputs text output Done) where
+    pub piece_answers : (status : Status) → TakesPiece sink output status → AnswersText does sink text status
+    piece_answers Done took = (output, outputs, took)
+    piece_answers (Refused code place) took = absurd took
+    piece_answers (Usage word) took = took
+    piece_answers ReadFault took = took
+    piece_answers WriteFault took = (took.0, record { output = output; status = Done; outputs = outputs; gained = took.1 })
+    piece_answers NoMemory took = absurd took
+
   -- a compiler writes the file
-  module _ (kind : FileKind) (file : List ℕ) (is : IsCompiled kind text file) where
-    pub file_answers : (status : Status) → TakesPiece sink file status → AnswersText (compiling kind) sink text status
-    file_answers Done took = (file, (refl, is), took)
-    file_answers (Refused code place) took = absurd took
-    file_answers (Usage word) took = took
-    file_answers ReadFault took = took
-    file_answers WriteFault took = (took.0, record { output = file; status = Done; outputs = (refl, is); gained = took.1 })
-    file_answers NoMemory took = absurd took
+  pub file_answers : (kind : FileKind) (file : List ℕ) → IsCompiled kind text file → (status : Status) → TakesPiece sink file status
+      → AnswersText (compiling kind) sink text status
+  file_answers kind file is = piece_answers (compiling kind) file (refl, is)
 
   module _ (spec : Specification) (circuit : Circuit) (accepted : Accepted text (most_leaves network_file) spec) (of : IsNetworkOf spec circuit)
       (network : IsNetwork circuit) (few : circuit.nets ≤ 16777216)

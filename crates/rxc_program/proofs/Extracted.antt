@@ -20,9 +20,9 @@ module _ (layouts : LayoutsHaveOneReading) (text : List ℕ) where
   layouts_apart code place accepted broken = layouts.never_both text accepted.0 broken.0 place accepted.1 broken.2
 
   -- it is refused for one reason
-  pub one_break : (one other : Code) (here there : Place) → BreaksLayout text one here → BreaksLayout text other there
+  pub one_layout_break : (one other : Code) (here there : Place) → BreaksLayout text one here → BreaksLayout text other there
       → (one ≡ other) × (here ≡ there)
-  one_break one other here there first second =
+  one_layout_break one other here there first second =
       let same = layouts.one_refusal text first.0 second.0 here there first.2 second.2 in
       (first.1 ∙ ap layout_code same.0 ∙ sym second.1, same.1)
 

@@ -1,5 +1,5 @@
 -- Every input is accepted by a command, or refused by it for one reason.
-use Rattle.std.proofs.Common.{◌≡◌, ◌⊎◌, inl, inr, ⊎_elim, ℕ, ◌<◌, ◌≤◌, List, length, true, refl, sym, ◌∙◌, ap, arith}
+use Rattle.std.proofs.Common.{◌≡◌, ◌⊎◌, inl, inr, ⊎_elim, ℕ, ◌<◌, ◌≤◌, List, length, true, false, refl, sym, ◌∙◌, ap, arith}
 use Rattle.std.proofs.lemmas.Bool.{cases_lt}
 use Rattle.rx_lang.specs.Specification.{Specification}
 use Rattle.rx_syntax.specs.Accepted.{Accepted}
@@ -10,18 +10,19 @@ use Rattle.layout_network.specs.OneReading.{LayoutsHaveOneReading}
 use Rattle.rx_text.specs.declared.place.Place.TheVariants.{Whole}
 use Rattle.rxc_program.proofs.DrivenJudged.{TraceLaws, NetLaws, driven_or_broken, driven_not_broken, one_break}
 use Rattle.rxc_program.proofs.Endings.{IsReading}
-use Rattle.rxc_program.proofs.Extracted.{layouts_apart, one_break}
+use Rattle.rxc_program.proofs.Extracted.{layouts_apart, one_layout_break}
 use Rattle.rxc_program.specs.Behaviour.{Behaviour, InputsAreJudged, IsAcceptedInput, IsDecided, IsRefusedInput, IsTooLong, most_input_bytes}
 use Rattle.rxc_program.specs.Codes.{spec_code}
 use Rattle.rxc_program.specs.Commands.{InputsAreDecided, behaviour}
 use Rattle.rxc_program.specs.Compiling.{compiling}
 use Rattle.rxc_program.specs.Extracting.{extracting}
-use Rattle.rxc_program.specs.Files.{FileKind, most_leaves}
+use Rattle.rxc_program.specs.Files.{FileKind, most_leaves, tree_file}
+use Rattle.rxc_program.specs.Reporting.{demonstrating, reporting}
 use Rattle.rxc_program.specs.Simulating.{simulating}
 use Rattle.rxc_program.specs.declared.status.Code.{Code}
 use Rattle.rxc_program.specs.declared.status.Code.TheVariants.{I1}
 use Rattle.rxc_program.specs.declared.words.Command.{Command}
-use Rattle.rxc_program.specs.declared.words.Command.TheVariants.{Net, Pla, Tree, Extract, Sim}
+use Rattle.rxc_program.specs.declared.words.Command.TheVariants.{Net, Pla, Tree, Extract, Sim, Report, Demo}
 
 -- no text is both accepted and broken, or broken for two reasons
 record TextsAreJudged (does : Behaviour) : Type 0 where
@@ -29,6 +30,20 @@ record TextsAreJudged (does : Behaviour) : Type 0 where
   never_both : (text : List ℕ) (code : Code) (place : Place) → does.Accepts text → does.Breaks text code place → ⊥
   one_reason : (text : List ℕ) (one other : Code) (here there : Place) → does.Breaks text one here → does.Breaks text other there
       → (one ≡ other) × (here ≡ there)
+
+-- what reads nothing refuses nothing, and accepts all
+not_refused : (start leaves : ℕ) (text : List ℕ) (code : Code) (place : Place) → IsRefusedInput (demonstrating start leaves) text code place → ⊥
+not_refused start leaves text code place (inl long) = (let clash : false ≡ true = long.2.0 in cc)
+not_refused start leaves text code place (inr broken) = broken.1
+
+demonstrating_judged : (start leaves : ℕ) → InputsAreJudged (demonstrating start leaves)
+demonstrating_judged start leaves = record {
+  never_both = λ text code place accepted refused. not_refused start leaves text code place refused;
+  one_reason = λ text one other here there first second. absurd (not_refused start leaves text one here first);
+}
+
+demonstrating_either : (start leaves : ℕ) (text : List ℕ) → IsDecided (demonstrating start leaves) text
+demonstrating_either start leaves text = inl (record { within = λ long. (let clash : false ≡ true = long.0 in cc); accepts = tt })
 
 module _ (does : Behaviour) (judged : TextsAreJudged does) where
   one_reason_of : (text : List ℕ) (one other : Code) (here there : Place) → IsRefusedInput does text one here → IsRefusedInput does text other there
@@ -61,7 +76,7 @@ extracting_judged : LayoutsHaveOneReading → TextsAreJudged extracting
 extracting_judged layouts = record {
   reads = refl;
   never_both = λ text code place accepted broken. layouts_apart layouts text code place accepted broken;
-  one_reason = λ text one other here there first second. one_break layouts text one other here there first second;
+  one_reason = λ text one other here there first second. one_layout_break layouts text one other here there first second;
 }
 
 module _
@@ -84,6 +99,19 @@ module _
       input_decided (compiling kind) (compiling_judged kind) text
       (⊎_elim (λ a. inl a) (λ r. inr (spec_code r.0, r.1, (r.0, refl, r.2))) (either text (most_leaves kind)))
 
+  -- `report` accepts and refuses the texts that `tree` does
+  reporting_judged : TextsAreJudged reporting
+  reporting_judged = record {
+    reads = refl;
+    never_both = (compiling_judged tree_file).never_both;
+    one_reason = (compiling_judged tree_file).one_reason;
+  }
+
+  reporting_either : (text : List ℕ) → IsDecided reporting text
+  reporting_either text =
+      input_decided reporting reporting_judged text
+      (⊎_elim (λ a. inl a) (λ r. inr (spec_code r.0, r.1, (r.0, refl, r.2))) (either text (most_leaves tree_file)))
+
   module _ (traces : TraceLaws) (nets : NetLaws) (layouts : LayoutsHaveOneReading) where
     simulating_judged : TextsAreJudged simulating
     simulating_judged = record {
@@ -101,6 +129,8 @@ module _
     decided Tree text none = compiling_either _ text
     decided Extract text none = absurd (none tt)
     decided Sim text none = simulating_either text
+    decided Report text none = reporting_either text
+    decided (Demo start leaves) text none = demonstrating_either start leaves text
 
     pub judged : (command : Command) → InputsAreJudged (behaviour command)
     judged Net = inputs_judged (behaviour Net) (compiling_judged _)
@@ -108,11 +138,27 @@ module _
     judged Tree = inputs_judged (behaviour Tree) (compiling_judged _)
     judged Extract = inputs_judged extracting (extracting_judged layouts)
     judged Sim = inputs_judged simulating simulating_judged
+    judged Report = inputs_judged reporting reporting_judged
+    judged (Demo start leaves) = demonstrating_judged start leaves
 
--- every command reads its input
-pub is_reading : ((command : Command) → InputsAreJudged (behaviour command)) → (command : Command) → IsReading (behaviour command)
-is_reading judged Net = record { reads = refl; judged = judged Net; answered = λ text output status h. (h.1.spec, h.1.accepted) }
-is_reading judged Pla = record { reads = refl; judged = judged Pla; answered = λ text output status h. (h.1.spec, h.1.accepted) }
-is_reading judged Tree = record { reads = refl; judged = judged Tree; answered = λ text output status h. (h.1.spec, h.1.accepted) }
-is_reading judged Extract = record { reads = refl; judged = judged Extract; answered = λ text output status h. (h.1.circuit, h.1.layout) }
-is_reading judged Sim = record { reads = refl; judged = judged Sim; answered = λ text output status h. (h.1.vectors, h.1.circuit, h.1.drives) }
+-- a command that reads its input
+pub is_reading : ((command : Command) → InputsAreJudged (behaviour command)) → (command : Command) → (behaviour command).reads ≡ true
+    → IsReading (behaviour command)
+is_reading judged Net e = record { reads = refl; judged = judged Net; answered = λ text output status h. (h.1.spec, h.1.accepted) }
+is_reading judged Pla e = record { reads = refl; judged = judged Pla; answered = λ text output status h. (h.1.spec, h.1.accepted) }
+is_reading judged Tree e = record { reads = refl; judged = judged Tree; answered = λ text output status h. (h.1.spec, h.1.accepted) }
+is_reading judged Extract e = record { reads = refl; judged = judged Extract; answered = λ text output status h. (h.1.circuit, h.1.layout) }
+is_reading judged Sim e = record { reads = refl; judged = judged Sim; answered = λ text output status h. (h.1.vectors, h.1.circuit, h.1.drives) }
+is_reading judged Report e = record { reads = refl; judged = judged Report; answered = λ text output status h. (h.1.spec, h.1.accepted) }
+is_reading judged (Demo start leaves) e = (let clash : false ≡ true = e in absurd (cc))
+
+-- a command that reads nothing refuses nothing
+pub refuses_nothing : (command : Command) → (behaviour command).reads ≡ false → (text : List ℕ) (code : Code) (place : Place)
+    → IsRefusedInput (behaviour command) text code place → ⊥
+refuses_nothing Net e text code place refused = (let clash : true ≡ false = e in cc)
+refuses_nothing Pla e text code place refused = (let clash : true ≡ false = e in cc)
+refuses_nothing Tree e text code place refused = (let clash : true ≡ false = e in cc)
+refuses_nothing Extract e text code place refused = (let clash : true ≡ false = e in cc)
+refuses_nothing Sim e text code place refused = (let clash : true ≡ false = e in cc)
+refuses_nothing Report e text code place refused = (let clash : true ≡ false = e in cc)
+refuses_nothing (Demo start leaves) e text code place refused = not_refused start leaves text code place refused

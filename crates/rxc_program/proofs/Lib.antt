@@ -10,6 +10,7 @@ pub mod LowLines
 pub mod Telling
 pub mod Files
 pub mod Answered
+pub mod Unread
 pub mod Promised
 pub mod WrittenBoxes
 pub mod TileBoxes
@@ -18,6 +19,7 @@ pub mod WrittenRows
 pub mod PadNames
 pub mod ArrayLabels
 pub mod ArrayFiles
+pub mod Reported
 pub mod Members
 pub mod Levels
 pub mod BoxSides

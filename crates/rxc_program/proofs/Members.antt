@@ -1,5 +1,7 @@
 -- What holds of each element of a list holds of one among them.
 use Rattle.std.proofs.Common.{◌≡◌, ◌⊎◌, inl, inr, ℕ, zero, suc, List, [], ◌∷◌, ◌++◌, map, flat_map, slice_get, Some, All, refl, subst, arith}
+use Rattle.std.specs.List.{AllByRecursion}
+use Rattle.std.proofs.lemmas.List.Elements.{All-from_recursion}
 use Rattle.geom.specs.Rows.{Among}
 
 pub each_of : {X : Type 0} (P : X → Type 0) (xs : List X) → All P xs → (x : X) → Among xs x → P x
@@ -31,3 +33,11 @@ flat_among f (x ∷ xs) y among = elim (either_among (f x) (flat_map f xs) y amo
   | inl here ↦ (x, inl refl, here)
   | inr there ↦ (let later = flat_among f xs y there in (later.0, inr later.1, later.2))
 ]
+
+each_by : {X : Type 0} (P : X → Type 0) (xs : List X) → ((x : X) → Among xs x → P x) → AllByRecursion P xs
+each_by P [] each = tt
+each_by P (x ∷ xs) each = (each x (inl refl), each_by P xs (λ y among. each y (inr among)))
+
+-- what holds of each among them holds of each element
+pub all_of : {X : Type 0} (P : X → Type 0) (xs : List X) → ((x : X) → Among xs x → P x) → All P xs
+all_of P xs each = All-from_recursion P xs (each_by P xs each)

@@ -1,13 +1,14 @@
 -- What a run promises for all words, from how the command that they name ran.
-use Rattle.std.proofs.Common.{◌≡◌, ℕ, ◌≤◌, List, Some, None, length, refl, sym, ap, ◌∙◌, subst, arith}
+use Rattle.std.proofs.Common.{◌≡◌, ℕ, ◌≤◌, Bool, true, false, List, Some, None, length, refl, sym, ap, ◌∙◌, subst, arith}
 use Rattle.rx_lang.specs.Specification.{Specification}
 use Rattle.rx_syntax.specs.Accepted.{Accepted}
 use Rattle.rxc_program.proofs.Endings.{known_run, no_usage, writes_such}
-use Rattle.rxc_program.proofs.Judged.{is_reading}
+use Rattle.rxc_program.proofs.Judged.{is_reading, refuses_nothing}
+use Rattle.rxc_program.proofs.Unread.{known_unread}
 use Rattle.rxc_program.specs.Behaviour.{Behaviour, InputsAreJudged, IsAcceptedInput, most_input_bytes}
 use Rattle.rxc_program.specs.Commands.{behaviour, compiler}
 use Rattle.rxc_program.specs.Compiling.{compiling}
-use Rattle.rxc_program.specs.Endings.{Change, CommandRun, WritesSuch}
+use Rattle.rxc_program.specs.Endings.{Change, CommandRun, KnownRun, WritesSuch}
 use Rattle.rxc_program.specs.Files.{FileKind, IsFileOf, network_file, pla_file, tree_file}
 use Rattle.rxc_program.specs.Promises.{CompilesAccepted, JudgesInput, ReportsWords, RunsCommand, ShowsLanguages}
 use Rattle.rxc_program.specs.Simulating.{simulating}
@@ -30,8 +31,11 @@ module _ {Source Sink : Type 0} (words : List (List ℕ)) (source : Change Sourc
   module _ (status : Status) (ran : (command : Command) → command_of words ≡ Some command → CommandRun (behaviour command) source sink status)
       (judged : (command : Command) → InputsAreJudged (behaviour command)) where
     pub judges_input : JudgesInput words source sink status
-    judges_input command e text told =
-        known_run (behaviour command) source sink (is_reading judged command) text told status (ran command e).ends
+    judges_input command e text told = by (behaviour command).reads refl
+      where
+        by : (b : Bool) → (behaviour command).reads ≡ b → KnownRun (behaviour command) source sink text status
+        by true reads = known_run (behaviour command) source sink (is_reading judged command reads) text told status (ran command e).ends
+        by false unread = known_unread (behaviour command) source sink unread (refuses_nothing command unread) text status (ran command e).ends
 
     -- a kind of file, and the run of its compiler
     by_kind : (kind : FileKind) → CommandRun (behaviour (compiler kind)) source sink status → (text : List ℕ)
@@ -39,11 +43,11 @@ module _ {Source Sink : Type 0} (words : List (List ℕ)) (source : Change Sourc
         → ((output : List ℕ) (end : Status) → (compiling kind).Outputs text output end → Is output)
         → WritesSuch (compiling kind) source sink Is status
     by_kind network_file run text told accepted Is such =
-        writes_such (behaviour Net) source sink (is_reading judged Net) text told accepted Is such status run.ends
+        writes_such (behaviour Net) source sink (is_reading judged Net refl) text told accepted Is such status run.ends
     by_kind pla_file run text told accepted Is such =
-        writes_such (behaviour Pla) source sink (is_reading judged Pla) text told accepted Is such status run.ends
+        writes_such (behaviour Pla) source sink (is_reading judged Pla refl) text told accepted Is such status run.ends
     by_kind tree_file run text told accepted Is such =
-        writes_such (behaviour Tree) source sink (is_reading judged Tree) text told accepted Is such status run.ends
+        writes_such (behaviour Tree) source sink (is_reading judged Tree refl) text told accepted Is such status run.ends
 
     pub compiles_accepted : ((text : List ℕ) (limit other : ℕ) (some others : Specification)
         → Accepted text limit some → Accepted text other others → some ≡ others) → CompilesAccepted words source sink status
@@ -55,7 +59,7 @@ module _ {Source Sink : Type 0} (words : List (List ℕ)) (source : Change Sourc
     pub shows_languages : FilesShowTheirLanguages → ShowsLanguages words source sink status
     shows_languages files e text given spec vectors drives =
         let told = files text spec vectors drives in
-        writes_such simulating source sink (is_reading judged Sim) text given.0 (accepted_input simulating text given.1 told.0)
+        writes_such simulating source sink (is_reading judged Sim refl) text given.0 (accepted_input simulating text given.1 told.0)
         (TellsLanguages spec vectors) (λ output end outputs. told.1 output outputs.1) status (ran Sim e).ends
 
   -- the run of a command is one of each command that the words name

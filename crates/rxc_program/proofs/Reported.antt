@@ -1,6 +1,8 @@
 -- Reports, and the texts of `demo`.
-use Rattle.std.proofs.Common.{◌≡◌, ℕ, ◌++◌, true, List, [], ◌∷◌, All, Result, Ok, Err, refl, sym, ap, subst}
+use Rattle.std.proofs.Common.{◌≡◌, ℕ, ◌+◌, ◌*◌, ◌<◌, ◌≤◌, arith, ◌++◌, true, List, All, Result, Ok, Err, refl, sym, ap, subst}
 use Rattle.std.specs.Prelude.{IfOk}
+use Rattle.std.specs.Int.{div_ceil}
+use Rattle.std.proofs.lemmas.Grind.{div_ceil_times}
 use Rattle.std.proofs.lemmas.List.Elements.{All-from_recursion}
 use Rattle.rx_lang.specs.Specification.{Specification}
 use Rattle.rx_lang.specs.Tables.{Tables, specification}
@@ -9,6 +11,13 @@ use Rattle.report_text.specs.Reports.{demo_line, report_lines}
 use Rattle.report_text.specs.declared.figures.Figures.{Figures}
 use Rattle.demo_spec.specs.Generator.{demo, demo_lines, demo_outputs}
 use Rattle.rxc_program.specs.Reporting.{AreFiguresOf, IsDemo, IsReportOf}
+
+-- a full binary tree of so many nodes has half as many leaves, rounded up
+pub half_rounded_up : (nodes leaves : ℕ) → nodes + 1 ≡ 2 * leaves → div_ceil nodes 2 ≡ leaves
+half_rounded_up nodes leaves counted = (let bounds = div_ceil_times nodes 2 (omega arith) in by (div_ceil nodes 2) bounds.0 bounds.1)
+  where
+    by : (half : ℕ) → nodes ≤ half * 2 → half * 2 < nodes + 2 → half ≡ leaves
+    by half low high = omega (arith, counted, low, high)
 
 -- the lines of its figures are the report of a specification
 report_of_figures : (spec : Specification) (figures : Figures) → AreFiguresOf spec figures → IsReportOf spec (report_lines figures)

@@ -1,8 +1,9 @@
--- The text of the chip of a tree's layout is a file of its specification.
+-- The text of the chip of a tree's layout is a file of its specification, and the chip has a box.
 use Rattle.std.proofs.Common.{◌≡◌, ◌≢◌, ◌↔◌, ℕ, ◌-◌, ◌*◌, ◌<◌, ◌≤◌, true, ℤ, pos, ◌≤ℤ◌, ◌<ℤ◌, List, [], length, All, Result, Ok, Err, refl, sym, ap, subst, ◌∙◌, arith}
 use Rattle.std.specs.Prelude.{◌^◌, IfOk}
 use Rattle.std.proofs.Math.Nat.{mul-le-mul, mul-le-mul_left, mul_assoc, mul_comm}
 use Rattle.std.proofs.lemmas.Int.{ints}
+use Rattle.std.proofs.lemmas.Option.{slice_get_within}
 use Rattle.rx_text.specs.Name.{is_name}
 use Rattle.rx_text.specs.declared.pad_name.Role.TheVariants.{Vdd}
 use Rattle.geom.specs.declared.layer.Layer.{Layer}
@@ -16,7 +17,7 @@ use Rattle.geom.specs.CifLabels.{bears_labels}
 use Rattle.geom.specs.Chips.{ChipCovers, ChipShape, IsBoxOf}
 use Rattle.cif_write.specs.ChipText.{chip_text}
 use Rattle.cif_write.specs.WrittenChips.{ChipTextsDraw, IsWritable, IsWritableBox, IsWritableCall, IsWritableEdge, IsWritableLabel, chip_boxes}
-use Rattle.chip_box.specs.Extents.{RectanglesExist}
+use Rattle.chip_box.specs.Extents.{IsMeasured, RectanglesExist}
 use Rattle.rx_lang.specs.Specification.{Specification}
 use Rattle.rx_lang.specs.Squares.{IsLevel, side_bound}
 use Rattle.rx_lang.specs.Tables.{IsSpecification, Tables, specification}
@@ -31,10 +32,12 @@ use Rattle.tree_chip.specs.TreeChips.{IsTreeChip, KindsAreBlocks}
 use Rattle.tree_chip.specs.TreeChips.{block_width as tree_block_width}
 use Rattle.tree_chip.specs.TreeNetworks.{DrawsRecogniser}
 use Rattle.tree_chip.specs.TreePlans.{tree_labels, tree_plan}
-use Rattle.rxc_program.specs.Files.{HasTreeSides, IsFileOf, tree_file}
+use Rattle.rxc_program.specs.Files.{DrawsBox, HasTreeSides, IsFileOf, tree_file}
+use Rattle.rxc_program.specs.Measuring.{IsLayoutOf}
 use Rattle.report_text.specs.Sizes.{block_width, blocks, leaves, tree_area_bound, tree_side_bound, wires}
 use Rattle.rxc_program.proofs.BoxSides.{height_within, width_within}
 use Rattle.rxc_program.proofs.Levels.{few_lines}
+use Rattle.rxc_program.proofs.Members.{all_of}
 use Rattle.rxc_program.proofs.TreeLabels.{poly_is_drawn, tree_labels_named}
 use Rattle.rxc_program.proofs.TreeSquares.{boxes_ordered, chip_lies, kind_box, kind_within}
 use Rattle.rxc_program.proofs.WrittenBoxes.{written_boxes_cover}
@@ -173,55 +176,97 @@ module _ (sheet : Sheet) (tree : TreeTable) (tables : Tables) (spec_is : IsSpeci
     box = rectangles (chip_boxes chip) (some_boxes (chip_boxes chip) Poly first_square.0.x first_square.0.y first_square.1)
         (boxes_ordered sheet tree tables chip is within)
 
-    tree_sides : HasTreeSides (specification tables) (chip_text chip)
-    tree_sides =
+    drawn_box : (r : Rect) → IsBoxOf (chip_boxes chip) r → DrawsBox (chip_text chip) r.width r.height
+    drawn_box r is_box = record {
+      boxes = chip_boxes chip;
+      labels = chip.labels;
+      draws = texts.drawn chip writable;
+      box = r;
+      box_of = is_box;
+      width_is = refl;
+      height_is = refl;
+    }
+
+    sides_of : (r : Rect) → IsBoxOf (chip_boxes chip) r → HasTreeSides (specification tables) (chip_text chip)
+    sides_of r is_box =
         let lies = chip_lies sheet tree tables chip is within in
         let at = first_square.0 in
-        let width = width_within (chip_boxes chip) (side * sheet.cols) (side * sheet.rows) lies box.0 box.1 Poly at.x at.y first_square.1 in
-        let height = height_within (chip_boxes chip) (side * sheet.cols) (side * sheet.rows) lies box.0 box.1 Poly at.x at.y first_square.1 in
+        let width = width_within (chip_boxes chip) (side * sheet.cols) (side * sheet.rows) lies r is_box Poly at.x at.y first_square.1 in
+        let height = height_within (chip_boxes chip) (side * sheet.cols) (side * sheet.rows) lies r is_box Poly at.x at.y first_square.1 in
         let wide : 14 * side ≡ block_width (specification tables) = omega arith in
-        let narrow : box.0.width ≤ tree_side_bound (specification tables) level =
-        no_more box.0.width _ _ width (side_bounded side (block_width (specification tables)) sheet.cols (side_bound level) wide cols) in
-        let low : box.0.height ≤ tree_side_bound (specification tables) level =
-        no_more box.0.height _ _ height (side_bounded side (block_width (specification tables)) sheet.rows (side_bound level) wide rows) in
+        let narrow : r.width ≤ tree_side_bound (specification tables) level =
+        no_more r.width _ _ width (side_bounded side (block_width (specification tables)) sheet.cols (side_bound level) wide cols) in
+        let low : r.height ≤ tree_side_bound (specification tables) level =
+        no_more r.height _ _ height (side_bounded side (block_width (specification tables)) sheet.rows (side_bound level) wide rows) in
         let l = spec_is.some_lines in
         let s = spec_is.some_symbols in
         let o = spec_is.some_outputs in
         record {
           level = level;
           is_level = is_level;
-          width = box.0.width;
-          height = box.0.height;
-          drawn = record {
-            boxes = chip_boxes chip;
-            labels = chip.labels;
-            draws = texts.drawn chip writable;
-            box = box.0;
-            box_of = box.1;
-            width_is = refl;
-            height_is = refl;
-          };
+          width = r.width;
+          height = r.height;
+          drawn = drawn_box r is_box;
           narrow = narrow;
           low = low;
-          small = areas (specification tables) level box.0.width box.0.height is_level some (omega (arith, l, s, o)) narrow low;
+          small = areas (specification tables) level r.width r.height is_level some (omega (arith, l, s, o)) narrow low;
         }
 
-    pub tree_file_of : IsFileOf tree_file (specification tables) (chip_text chip)
+    tree_file_of : IsFileOf tree_file (specification tables) (chip_text chip)
     tree_file_of = record {
       circuit = shows.circuit;
       stands = record { boxes = chip_boxes chip; labels = chip.labels; draws = texts.drawn chip writable; stands = stands };
       compiled = record { pads = shows.recogniser.pads; recognises = shows.recogniser.recognises; sure = shows.recogniser.sure };
-      sides = tree_sides;
+      sides = sides_of box.0 box.1;
     }
 
-  -- the text of the chip, if it was made, is a file of the specification
-  pub tree_files : ((chip : ChipShape) → StandAlike (Covers (tree_plan sheet tree tables)) (Covered (chip_boxes chip)))
+    -- ---- the chip can be measured
+
+    call_measured : (call : Call) → Among chip.calls call → IsMeasured (length chip.kinds) call
+    call_measured call among =
+        let written = call_written call among in
+        let x = written.x in
+        let y = written.y in
+        record {
+          kind = slice_get_within chip.kinds call.kind written.boxes written.kind;
+          x = (omega (arith, ints, x.from), omega (arith, ints, x.to));
+          y = (omega (arith, ints, y.from), omega (arith, ints, y.to));
+        }
+
+    narrow_box : (r : Rect) → IsBoxOf (chip_boxes chip) r → r.width < 2 ^ 32
+    narrow_box r is_box =
+        let lies = chip_lies sheet tree tables chip is within in
+        let at = first_square.0 in
+        let width = width_within (chip_boxes chip) (side * sheet.cols) (side * sheet.rows) lies r is_box Poly at.x at.y first_square.1 in
+        let most : side * sheet.cols ≤ 1433600 = mul-le-mul {n₁ = side} {m₁ = sheet.cols} {n₂ = 700} {m₂ = 2048} small_side few_cols in
+        omega (arith, width, most)
+
+    low_box : (r : Rect) → IsBoxOf (chip_boxes chip) r → r.height < 2 ^ 32
+    low_box r is_box =
+        let lies = chip_lies sheet tree tables chip is within in
+        let at = first_square.0 in
+        let height = height_within (chip_boxes chip) (side * sheet.cols) (side * sheet.rows) lies r is_box Poly at.x at.y first_square.1 in
+        let most : side * sheet.rows ≤ 1433600 = mul-le-mul {n₁ = side} {m₁ = sheet.rows} {n₂ = 700} {m₂ = 2048} small_side few_rows in
+        omega (arith, height, most)
+
+    layout_of : IsLayoutOf (specification tables) chip
+    layout_of = record {
+      file = tree_file_of;
+      measured = all_of (IsMeasured (length chip.kinds)) chip.calls call_measured;
+      some = some_boxes (chip_boxes chip) Poly first_square.0.x first_square.0.y first_square.1;
+      drawn = drawn_box;
+      narrow = narrow_box;
+      low = low_box;
+    }
+
+  -- the chip, if it was made, is a layout of the specification
+  pub tree_layouts : ((chip : ChipShape) → StandAlike (Covers (tree_plan sheet tree tables)) (Covered (chip_boxes chip)))
       → {E : Type 0} (result : Result ChipShape E)
       → IfOk result (λ chip. IsTreeChip sheet tree tables chip)
       → IfOk result (λ chip. (layer : Layer) (x y : ℤ) → ChipCovers chip layer x y ↔ Covers (tree_plan sheet tree tables) layer x y)
       → IfOk result (λ chip. length chip.kinds < 2 ^ 16)
       → IfOk result (KindsAreBlocks (tree_block_width tree tables))
       → IfOk result (λ chip. chip.labels ≡ tree_labels sheet tree tables)
-      → IfOk result (λ chip. IsFileOf tree_file (specification tables) (chip_text chip))
-  tree_files alike (Err refused) made squares few within labels = tt
-  tree_files alike (Ok chip) made squares few within labels = tree_file_of chip made squares few within labels (alike chip)
+      → IfOk result (IsLayoutOf (specification tables))
+  tree_layouts alike (Err refused) made squares few within labels = tt
+  tree_layouts alike (Ok chip) made squares few within labels = layout_of chip made squares few within labels (alike chip)

@@ -1,14 +1,12 @@
 -- Runs of a command that reads nothing and refuses nothing.
-use Rattle.std.proofs.Common.{◌≡◌, ◌⊎◌, inl, inr, ℕ, Bool, true, false, List, [], Option, Some, None, refl, sym, ap, ◌∙◌, subst, arith}
+use Rattle.std.proofs.Common.{◌≡◌, inl, inr, ℕ, true, false, List, [], Option, Some, None, refl, sym, ◌∙◌, subst, arith}
 use Rattle.std.specs.Io.KnownBytes.{Consumes}
 use Rattle.rx_io.specs.Streams.{LosesUpTo}
 use Rattle.rx_text.specs.declared.place.Place.{Place}
-use Rattle.rx_text.specs.declared.place.Place.TheVariants.{Whole}
 use Rattle.rxc_program.specs.Behaviour.{Behaviour, IsAcceptedInput, IsRefusedInput, most_input_bytes}
-use Rattle.rxc_program.specs.Endings.{Change, EndsAccepted, EndsRefused, EndsSo, HasRead, KnownRun, LostInput, Untouched, WroteFront}
+use Rattle.rxc_program.specs.Endings.{Change, EndsAccepted, EndsSo, HasRead, KnownRun, LostInput, Untouched, WroteFront}
 use Rattle.rxc_program.specs.Serving.{AnswersText, TookFront}
 use Rattle.rxc_program.specs.declared.status.Code.{Code}
-use Rattle.rxc_program.specs.declared.status.Code.TheVariants.{I1}
 use Rattle.rxc_program.specs.declared.status.Status.{Status}
 use Rattle.rxc_program.specs.declared.status.Status.TheVariants.{Done, Refused, Usage, ReadFault, WriteFault, NoMemory}
 

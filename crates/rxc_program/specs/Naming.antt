@@ -1,5 +1,5 @@
 -- What the words of a command line come to, in steps.
-use Rattle.std.specs.Prelude.{◌≡◌, ⊤, ℕ, ◌≤◌, ◌==◌, nat_le, List, [], ◌∷◌, length, find, bytes_eq, option_map, Option, Some, None, Result, Ok, Err, IfOk, if◌then◌else◌}
+use Rattle.std.specs.Prelude.{◌≡◌, ⊤, ℕ, ◌≤◌, ◌==◌, nat_le, List, [], ◌∷◌, find, bytes_eq, option_map, Option, Some, None, Result, Ok, Err, IfOk, if◌then◌else◌}
 use Rattle.std.specs.Result.{result_err}
 use Rattle.std.specs.Str.Parse.{digits_value}
 use Rattle.rx_text.specs.declared.number.NumberFault.{NumberFault}

@@ -6,6 +6,7 @@ ghost use Rattle.rx_lang.specs.Tables.{IsSpecification, specification};
 ghost use Rattle.rx_text.specs.Name.{is_name};
 ghost use Rattle.position_nfa.specs.Agreement.{IsTreeOf};
 ghost use Rattle.star_normal.specs.Tables.{whole};
+ghost use Rattle.star_normal.specs.Trees.{leaves};
 ghost use Rattle.report_text.specs.Reports.{AreTerms};
 ghost use Rattle.rxc_program.specs.Reporting.{AreFiguresOf};
 
@@ -29,12 +30,19 @@ pub(crate) fn figures(alloc: Global, spec: &Spec) -> Result<Figures, NoMemory>
     requires outputs { All (λ name. is_name name ≡ true) spec.now.outputs }
     ensures { IfOk result (λ figures. AreFiguresOf (specification spec.now) figures) }
 {
-    tables_have_the_leaves_of_their_trees();
     let tree = normalize(alloc, spec)?;
-    let count = tree.nodes().len().div_ceil(2) as u64;
+    let count = leaf_count(&tree);
     let terms = array_terms(alloc, spec, &tree, count)?;
     let sides = layout_box(alloc, spec)?;
     Ok(count_figures(spec, count, terms, sides.width, sides.height))
+}
+
+/// How many leaves the tree has.
+fn leaf_count(tree: &Tree) -> u64
+    ensures { result ≡ length (leaves (whole tree.now)) }
+{
+    tables_have_the_leaves_of_their_trees();
+    tree.nodes().len().div_ceil(2) as u64
 }
 
 /// How many terms the array of the specification with this tree has, where it has at most 256 symbols.

@@ -64,13 +64,6 @@ pub(crate) const REPORT_ROWS: &[Row] = &[
     },
     Row {
         words: &[b"report"],
-        input: Input::Repeated(SYMBOLS, b" a", 1024, b" !z;"),
-        end: End::Done,
-        output: Output::Is(MANY_REPORT),
-        log: b"",
-    },
-    Row {
-        words: &[b"report"],
         input: Input::Text(b"line x; symbol a = 1; output z; expr b !z;"),
         end: End::Refused(Code::S3, 1, 38),
         output: NOTHING,
@@ -102,20 +95,6 @@ pub(crate) const REPORT_ROWS: &[Row] = &[
         input: Input::Text(b""),
         end: End::Done,
         output: Output::Is(WRAPPED_REPORT),
-        log: b"",
-    },
-    Row {
-        words: &[b"demo", b"1", b"200"],
-        input: Input::Text(b""),
-        end: End::Done,
-        output: Output::Is(DEMO_200_REPORT),
-        log: b"",
-    },
-    Row {
-        words: &[b"demo", b"1", b"2000"],
-        input: Input::Text(b""),
-        end: End::Done,
-        output: Output::Is(DEMO_2000_REPORT),
         log: b"",
     },
     Row {
@@ -275,5 +254,30 @@ pub(crate) const REPORT_ROWS: &[Row] = &[
         end: End::Usage(2),
         output: NOTHING,
         log: b"rxc: usage, word 2\n",
+    },
+];
+
+/// Runs with many symbols, which take a second where they are built, and minutes where they are tried.
+pub(crate) const LARGE_REPORT_ROWS: &[Row] = &[
+    Row {
+        words: &[b"report"],
+        input: Input::Repeated(SYMBOLS, b" a", 1024, b" !z;"),
+        end: End::Done,
+        output: Output::Is(MANY_REPORT),
+        log: b"",
+    },
+    Row {
+        words: &[b"demo", b"1", b"200"],
+        input: Input::Text(b""),
+        end: End::Done,
+        output: Output::Is(DEMO_200_REPORT),
+        log: b"",
+    },
+    Row {
+        words: &[b"demo", b"1", b"2000"],
+        input: Input::Text(b""),
+        end: End::Done,
+        output: Output::Is(DEMO_2000_REPORT),
+        log: b"",
     },
 ];

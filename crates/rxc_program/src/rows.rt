@@ -442,6 +442,7 @@ pub(crate) const FRONTS: &[(&[u8], Input, usize)] = &[
     (b"net", Input::Text(ONE), 2),
     (b"pla", Input::Text(ONE), 2),
     (b"tree", Input::Text(ONE), 2),
+    (b"report", Input::Text(ONE), 2),
     (b"sim", Input::Behind(b"1\nchip\n", INVERTER), 0),
 ];
 
@@ -458,6 +459,13 @@ pub(crate) struct Failing {
 
 /// The runs with failures: the second read finds the end, and there is no third; each line of `sim` is a piece of four bytes.
 pub(crate) const FAILING: &[Failing] = &[
+    Failing {
+        word: b"report",
+        input: Input::Text(ONE),
+        reads: 2,
+        most: 64,
+        writes: 4,
+    },
     Failing {
         word: b"net",
         input: Input::Text(ONE),

@@ -202,7 +202,7 @@ impl Code {
 /// How a run ends.
 #[derive(Clone, Copy, Debug, PartialEq, Eq)]
 pub enum Status {
-    /// The input was read to its end and the output was written whole.
+    /// The input was read to its end, by all commands but `demo`, and the output was written whole.
     Done,
     /// The input breaks the named condition at the named place; nothing was written.
     Refused { code: Code, place: Place },
@@ -212,7 +212,7 @@ pub enum Status {
     ReadFault,
     /// The sink failed; a front of the output was written.
     WriteFault,
-    /// No memory was to be had; a front of the output was written, and none of it by `net` and `pla`.
+    /// No memory was to be had; a front of the output of `sim` was written, and nothing by the other commands.
     NoMemory,
 }
 

@@ -1,6 +1,6 @@
 //! Runs of the program over memory: each row of the tables, and inputs that are cut or noise.
 use crate::pla_rows::PLA_ROWS;
-use crate::report_rows::REPORT_ROWS;
+use crate::report_rows::{LARGE_REPORT_ROWS, REPORT_ROWS};
 use crate::rows::{FAILING, FRONTS, Failing, Input, ONE, Output, ROWS, Row, status_of};
 use crate::sim_rows::{REFUSED_SIM_ROWS, SIM_ROWS};
 use crate::status::Status;
@@ -146,6 +146,11 @@ fn reports_come_out(rt: HostRuntime) -> Result<(), Fail> {
     rows_come_out(&rt, rt.alloc(), REPORT_ROWS)
 }
 
+#[test]
+fn large_reports_come_out(rt: HostRuntime) -> Result<(), Fail> {
+    rows_come_out(&rt, rt.alloc(), LARGE_REPORT_ROWS)
+}
+
 /// The run is refused, and writes nothing.
 fn is_refused(alloc: Global, word: &[u8], text: &[u8]) -> Result<bool, Fail> {
     let run = run_on(alloc, &[word], text, NO_FAULTS)?;
@@ -182,6 +187,7 @@ fn noise_is_refused(rt: HostRuntime) -> Result<(), Fail> {
         assert!(rt; is_refused(rt.alloc(), b"pla", &text)?, "{seed}");
         assert!(rt; is_refused(rt.alloc(), b"tree", &text)?, "{seed}");
         assert!(rt; is_refused(rt.alloc(), b"sim", &text)?, "{seed}");
+        assert!(rt; is_refused(rt.alloc(), b"report", &text)?, "{seed}");
     }
     Ok(())
 }

@@ -14,8 +14,8 @@ ghost use Rattle.cif_write.specs.ChipText.{chip_text};
 ghost use Rattle.rxc_program.specs.Behaviour.{most_input_bytes};
 ghost use Rattle.rxc_program.specs.Compiling.{BreaksSpecification, compiling, IsCompiled};
 ghost use Rattle.rxc_program.specs.Endings.{change, CommandRun};
-ghost use Rattle.rxc_program.specs.Files.{IsFileOf, most_leaves, tree_file};
-ghost use Rattle.rxc_program.specs.Measuring.{HasBox};
+ghost use Rattle.rxc_program.specs.Files.{most_leaves, tree_file};
+ghost use Rattle.rxc_program.specs.Measuring.{IsLayoutOf};
 ghost use Rattle.rxc_program.specs.Reporting.{AreSidesOf};
 ghost use Rattle.rxc_program.specs.Serving.{AnswersText, StopsBy, TakesPiece};
 
@@ -84,8 +84,7 @@ fn layout_chip(alloc: Global, spec: &Spec) -> Result<Chip, NoMemory>
     requires tables { IsSpecification spec.now }
     requires lines { All (λ name. is_name name ≡ true) spec.now.lines }
     requires outputs { All (λ name. is_name name ≡ true) spec.now.outputs }
-    ensures file { IfOk result (λ chip. IsFileOf tree_file (specification spec.now) (chip_text chip)) }
-    ensures measured { IfOk result (λ chip. HasBox chip) }
+    ensures { IfOk result (IsLayoutOf (specification spec.now)) }
 {
     tables_have_the_leaves_of_their_trees();
     trees_recognise();

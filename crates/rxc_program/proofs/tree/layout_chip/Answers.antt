@@ -7,7 +7,7 @@ use Rattle.tree_chip.specs.TreePlans.{IsSheetOf}
 use Rattle.report_text.specs.Sizes.{blocks, leaves}
 use Rattle.rxc_program.proofs.Levels.{levels_exist}
 use Rattle.rxc_program.proofs.TreeCells.{sheet_of}
-use Rattle.rxc_program.proofs.TreeFiles.{tree_files}
+use Rattle.rxc_program.proofs.TreeFiles.{tree_layouts}
 use Rattle.rxc_program.proofs.tree.layout_chip.Goals as goal
 
 -- src/tree.rt
@@ -34,7 +34,7 @@ returns c =
     let same : length tree.nodes + 1 ≡ blocks (specification tables) = omega (arith, nodes, counted, named) in
     let level = levels_exist (blocks (specification tables)) few in
     let room : IsLevel (length tree.nodes + 1) level.0 = subst (λ n. IsLevel n level.0) (sym same) level.1 in
-    tree_files sheet tree tables c.requires.tables c.requires.lines c.requires.outputs c.chip_texts_draw.ensures c.rectangles_exist.ensures
+    tree_layouts sheet tree tables c.requires.tables c.requires.lines c.requires.outputs c.chip_texts_draw.ensures c.rectangles_exist.ensures
     c.sides_bound_the_area.ensures level.0 level.1 level.2 some (made.rows level.0 room) (made.cols level.0 room)
     (c.trees_recognise.ensures sheet tree tables is_tree c.requires.tables c.in_ok-tree.ensures.symbols is_sheet c.in_ok-cells_recognise.ensures)
     (λ chip. c.equal_drawings_are_alike.ensures.networks (record { blocks = sheet; tree = tree; spec = tables }) (record { chip = chip }))
