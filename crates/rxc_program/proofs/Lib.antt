@@ -4,6 +4,7 @@ pub mod NamedWords
 pub mod DemoWords
 pub mod Endings
 pub mod DrivenJudged
+pub mod Extracted
 pub mod Judged
 pub mod LowLines
 pub mod Telling

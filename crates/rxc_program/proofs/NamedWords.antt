@@ -7,7 +7,7 @@ use Rattle.std.proofs.lemmas.Slice.Eq.{bytes_eq-Decides}
 use Rattle.rxc_program.specs.Naming.{HasLeafCount, Names, alone, lone_command}
 use Rattle.rxc_program.specs.Words.{Usage, command_of, demo_usage, fits, goes_on, lone_commands, lone_usage, wrong_word}
 use Rattle.rxc_program.specs.declared.words.Command.{Command}
-use Rattle.rxc_program.specs.declared.words.Command.TheVariants.{Net, Pla, Tree, Sim, Report}
+use Rattle.rxc_program.specs.declared.words.Command.TheVariants.{Net, Pla, Tree, Extract, Sim, Report}
 
 -- ---- the commands that one word names
 
@@ -47,9 +47,10 @@ names_alone =
     let net = alone_is (codes "net") Net refl tt refl (λ next rest. refl) in
     let pla = alone_is (codes "pla") Pla refl tt refl (λ next rest. refl) in
     let tree = alone_is (codes "tree") Tree refl tt refl (λ next rest. refl) in
+    let extract = alone_is (codes "extract") Extract refl tt refl (λ next rest. refl) in
     let sim = alone_is (codes "sim") Sim refl tt refl (λ next rest. refl) in
     let report = alone_is (codes "report") Report refl tt refl (λ next rest. refl) in
-    (net, (pla, (tree, (sim, (report, tt)))))
+    (net, (pla, (tree, (extract, (sim, (report, tt))))))
 
 pub lone_named : (word : List ℕ) (rest : List (List ℕ)) (command : Command) → lone_command word ≡ Some command
     → Names (word ∷ rest) (alone command (length rest))

@@ -37,9 +37,12 @@ abbrev pub IsRefusedInput : Behaviour → List ℕ → Code → Place → Type 0
 IsRefusedInput does text code place =
     ((code ≡ I1) × (place ≡ Whole) × IsTooLong does text) ⊎ ((IsTooLong does text → ⊥) × does.Breaks text code place)
 
--- Every input is accepted or refused for one reason, and never both.
+-- No input is both accepted and refused, and none is refused for two reasons.
 pub record InputsAreJudged (does : Behaviour) : Type 0 where
-  pub either : (text : List ℕ) → IsAcceptedInput does text ⊎ ((code : Code) × (place : Place) × IsRefusedInput does text code place)
   pub never_both : (text : List ℕ) (code : Code) (place : Place) → IsAcceptedInput does text → IsRefusedInput does text code place → ⊥
   pub one_reason : (text : List ℕ) (one other : Code) (here there : Place)
       → IsRefusedInput does text one here → IsRefusedInput does text other there → (one ≡ other) × (here ≡ there)
+
+-- The input is accepted or refused.
+abbrev pub IsDecided : Behaviour → List ℕ → Type 0
+IsDecided does text = IsAcceptedInput does text ⊎ ((code : Code) × (place : Place) × IsRefusedInput does text code place)

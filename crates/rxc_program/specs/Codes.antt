@@ -7,7 +7,7 @@ use Rattle.rx_syntax.specs.declared.spec_code.SpecCode.TheVariants as spec
 use Rattle.switch_sim.specs.declared.trace_code.TraceCode.{TraceCode}
 use Rattle.switch_sim.specs.declared.trace_code.TraceCode.TheVariants as trace
 use Rattle.rxc_program.specs.declared.status.Code.{Code}
-use Rattle.rxc_program.specs.declared.status.Code.TheVariants.{S1, S2, S3, S4, S5, S6, S7, S8, S9, S10, S11, S12, S13, S14, S15, N1, N2, N3, N4, N5, N6, V1, V2, V3, V4, I1}
+use Rattle.rxc_program.specs.declared.status.Code.TheVariants.{S1, S2, S3, S4, S5, S6, S7, S8, S9, S10, S11, S12, S13, S14, S15, N1, N2, N3, N4, N5, N6, C1, C2, C3, C4, C5, C6, C7, C8, C9, C10, C11, C12, C13, C14, C15, X1, X2, X3, X4, X5, X6, V1, V2, V3, V4, I1}
 
 -- the code of a fault in a specification
 abbrev pub spec_code : SpecCode → Code
@@ -66,6 +66,27 @@ code_text N3 = codes "N3 DoublePad"
 code_text N4 = codes "N4 MissingPad"
 code_text N5 = codes "N5 TooManyNets"
 code_text N6 = codes "N6 AfterEnd"
+code_text C1 = codes "C1 Syntax"
+code_text C2 = codes "C2 LayerUnknown"
+code_text C3 = codes "C3 NoLayer"
+code_text C4 = codes "C4 SymbolUnknown"
+code_text C5 = codes "C5 SymbolAgain"
+code_text C6 = codes "C6 NestedDefinition"
+code_text C7 = codes "C7 NotOnGrid"
+code_text C8 = codes "C8 OutOfRange"
+code_text C9 = codes "C9 ShapeNotInProfile"
+code_text C10 = codes "C10 NoEnd"
+code_text C11 = codes "C11 AfterEnd"
+code_text C12 = codes "C12 BadLabel"
+code_text C13 = codes "C13 TooManyBoxes"
+code_text C14 = codes "C14 TooDeep"
+code_text C15 = codes "C15 TooManyPoints"
+code_text X1 = codes "X1 OddChannel"
+code_text X2 = codes "X2 OddTerminals"
+code_text X3 = codes "X3 OddLoad"
+code_text X4 = codes "X4 LabelOnNothing"
+code_text X5 = codes "X5 LabelsDisagree"
+code_text X6 = codes "X6 MissingPad"
 code_text V1 = codes "V1 BadBit"
 code_text V2 = codes "V2 WrongWidth"
 code_text V3 = codes "V3 TooManyVectors"

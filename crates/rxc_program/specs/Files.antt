@@ -2,7 +2,7 @@
 use Rattle.std.specs.Prelude.{◌≡◌, ⊤, ℕ, ◌*◌, ◌≤◌, List, length}
 use Rattle.geom.specs.declared.chip.Label.{Label}
 use Rattle.geom.specs.declared.chip.Rect.{Rect}
-use Rattle.geom.specs.Squares.{BoxShape, Covered}
+use Rattle.geom.specs.Squares.{BoxShape}
 use Rattle.geom.specs.Chips.{IsBoxOf}
 use Rattle.geom.specs.CifRefusals.{DrawsCif}
 use Rattle.rx_lang.specs.Specification.{Specification, Language}
@@ -11,7 +11,7 @@ use Rattle.rx_lang.specs.Squares.{IsLevel}
 use Rattle.switch_net.specs.Circuit.{Circuit}
 use Rattle.switch_net.specs.Recognition.{HasPads, Recognises, ShowsSurely}
 use Rattle.net_text.specs.NetworkText.{IsNetworkText}
-use Rattle.nmos_model.specs.Networks.{StandsFor}
+use Rattle.layout_network.specs.Layouts.{DrawsNetwork}
 use Rattle.report_text.specs.Sizes.{blocks, tree_area_bound, tree_side_bound}
 
 -- the kinds of files that are written for a specification
@@ -27,13 +27,6 @@ most_leaves pla_file = 256
 most_leaves tree_file = 4096
 
 -- ---- what a file stands for
-
--- The file is a CIF text, and the squares of the boxes that it draws, with its labels, stand for this circuit.
-pub record DrawsNetwork (file : List ℕ) (circuit : Circuit) : Type 0 where
-  pub boxes : List BoxShape
-  pub labels : List Label
-  pub draws : DrawsCif file boxes labels
-  pub stands : StandsFor (Covered boxes) labels circuit
 
 -- The file is of this kind, and stands for this circuit.
 abbrev pub FileStandsFor : FileKind → List ℕ → Circuit → Type 0

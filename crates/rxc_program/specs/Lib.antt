@@ -2,11 +2,13 @@
 pub mod DemoWords
 pub mod Words
 pub mod Codes
+pub mod LayoutCodes
 pub mod StatusText
 pub mod Behaviour
 pub mod Endings
 pub mod Files
 pub mod Compiling
+pub mod Extracting
 pub mod Simulating
 pub mod Reporting
 pub mod Telling

@@ -6,13 +6,14 @@ use Rattle.rx_text.specs.declared.number.NumberFault.{NumberFault}
 use Rattle.rxc_program.specs.DemoWords.{is_leaf_count, is_start}
 use Rattle.rxc_program.specs.Words.{command_of, lone_commands, wrong_word}
 use Rattle.rxc_program.specs.declared.words.Command.{Command}
-use Rattle.rxc_program.specs.declared.words.Command.TheVariants.{Net, Pla, Tree, Sim, Report, Demo}
+use Rattle.rxc_program.specs.declared.words.Command.TheVariants.{Net, Pla, Tree, Extract, Sim, Report, Demo}
 
 -- the command is not `demo`, or `demo` for 1 to 4096 symbols
 abbrev pub HasLeafCount : Command → Type 0
 HasLeafCount Net = ⊤
 HasLeafCount Pla = ⊤
 HasLeafCount Tree = ⊤
+HasLeafCount Extract = ⊤
 HasLeafCount Sim = ⊤
 HasLeafCount Report = ⊤
 HasLeafCount (Demo start leaves) = (1 ≤ leaves) × (leaves ≤ 4096)

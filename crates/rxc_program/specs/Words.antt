@@ -2,12 +2,12 @@
 use Rattle.std.specs.Prelude.{ℕ, suc, ◌+◌, ◌&&◌, Bool, true, false, List, [], ◌∷◌, ◌++◌, Option, Some, None, map, fold, max, find, bytes_eq, codes, option_map, is_some, if◌then◌else◌}
 use Rattle.rxc_program.specs.DemoWords.{is_leaf_count, is_start, number_in}
 use Rattle.rxc_program.specs.declared.words.Command.{Command}
-use Rattle.rxc_program.specs.declared.words.Command.TheVariants.{Net, Pla, Tree, Sim, Report, Demo}
+use Rattle.rxc_program.specs.declared.words.Command.TheVariants.{Net, Pla, Tree, Extract, Sim, Report, Demo}
 
 -- the commands that one word names, with it
 abbrev pub lone_commands : List (List ℕ × Command)
 lone_commands =
-    (codes "net", Net) ∷ (codes "pla", Pla) ∷ (codes "tree", Tree) ∷ (codes "sim", Sim) ∷ (codes "report", Report) ∷ []
+    (codes "net", Net) ∷ (codes "pla", Pla) ∷ (codes "tree", Tree) ∷ (codes "extract", Extract) ∷ (codes "sim", Sim) ∷ (codes "report", Report) ∷ []
 
 -- a test for each word of a command, and the command that such words name
 pub record Usage : Type 0 where

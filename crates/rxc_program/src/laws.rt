@@ -3,23 +3,27 @@
 ghost use Rattle.std.specs.Prelude.{◌≡◌, ℕ, Bool, List};
 ghost use Rattle.switch_net.specs.Circuit.{Circuit};
 ghost use Rattle.rxc_program.specs.Behaviour.{InputsAreJudged};
-ghost use Rattle.rxc_program.specs.Commands.{behaviour};
+ghost use Rattle.rxc_program.specs.Commands.{InputsAreDecided, behaviour};
 ghost use Rattle.rxc_program.specs.Simulating.{Drives, IsSimulated};
 ghost use Rattle.rxc_program.specs.Telling.{FilesShowTheirLanguages, NetworksShowTheirLanguages};
 ghost use Rattle.rxc_program.specs.declared.words.Command.{Command};
 
+use layout_network::layouts_have_one_reading;
 use net_text::{text_is_of_one_network, texts_are_networks_or_refused};
 use rx_syntax::laws::texts_are_accepted_or_refused_at_a_place;
 use switch_sim::{texts_are_traces_or_refused, traces_have_an_output, traces_have_one_output};
 
-/// Every input is accepted by a command or refused by it for one reason, and never both.
+/// No input is both accepted by a command and refused by it, and none is refused for two reasons. Where the command reads no layout in
+/// it, it is one of the two. (That each CIF text draws something or is refused is not said here.)
 pub fn inputs_are_judged()
-    ensures { (command : Command) → InputsAreJudged (behaviour command) }
+    ensures judged { (command : Command) → InputsAreJudged (behaviour command) }
+    ensures decided { (command : Command) → InputsAreDecided command }
 {
     texts_are_accepted_or_refused_at_a_place();
     texts_are_traces_or_refused();
     texts_are_networks_or_refused();
     text_is_of_one_network();
+    layouts_have_one_reading();
 }
 
 /// An accepted input of `sim` stands for an output.

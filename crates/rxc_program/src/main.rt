@@ -11,6 +11,7 @@ ghost use Rattle.rxc_program.specs.StatusText.{exit_number};
 mod demo;
 mod demo_words;
 mod drawn;
+mod extract;
 mod figures;
 mod input;
 mod laws;

@@ -80,7 +80,7 @@ fn network_of(alloc: Global, spec: &Spec) -> Result<Network, Status>
 }
 
 /// Writes the text of the network.
-fn write_network<O: Sink>(network: &Network, out: &mut O) -> Status
+pub(crate) fn write_network<O: Sink>(network: &Network, out: &mut O) -> Status
     ensures taken { TakesPiece (change O.held O.faults out.old out.new) (network_text network.now) result }
     ensures count { O.faults out.old ≤ O.faults out.new }
 {

@@ -2,9 +2,12 @@
 
 ghost use Rattle.std.specs.Prelude.{◌≡◌};
 ghost use Rattle.rxc_program.specs.Codes.{net_code, spec_code, trace_code};
+ghost use Rattle.rxc_program.specs.LayoutCodes.{cif_code, extract_code};
 ghost use Rattle.rxc_program.specs.StatusText.{exit_number};
 
+use geom::CifCode;
 use net_text::NetCode;
+use nmos_model::ExtractCode;
 use rx_syntax::SpecCode;
 use rx_text::Place;
 use switch_sim::TraceCode;
@@ -54,6 +57,48 @@ pub enum Code {
     N5,
     /// AfterEnd: a byte stands behind the line `end` of a network text.
     N6,
+    /// Syntax: no CIF text goes on with this byte, or a number of a scale is 0.
+    C1,
+    /// LayerUnknown: a short name is that of no layer.
+    C2,
+    /// NoLayer: a shape is drawn where no layer is set.
+    C3,
+    /// SymbolUnknown: a symbol is called that no closed definition before defines.
+    C4,
+    /// SymbolAgain: a symbol is defined again.
+    C5,
+    /// NestedDefinition: a definition opens inside another, `DF` stands outside definitions, or `E` inside one.
+    C6,
+    /// NotOnGrid: an edge, a point or a translation is off the grid of lambda.
+    C7,
+    /// OutOfRange: a number, an edge or a translation is too far from 0.
+    C8,
+    /// ShapeNotInProfile: a shape, a direction or a command is outside the profile.
+    C9,
+    /// NoEnd: a CIF text ends before `E`.
+    C10,
+    /// AfterEnd: a byte that is no blank stands behind `E`.
+    C11,
+    /// BadLabel: a label is malformed, or stands in a definition.
+    C12,
+    /// TooManyBoxes: more than 8,000,000 boxes are drawn.
+    C13,
+    /// TooDeep: a call makes a chain of more than 64 calls.
+    C14,
+    /// TooManyPoints: a polygon or a wire has more than 4,096 points.
+    C15,
+    /// OddChannel: a channel region is no full rectangle, or lies partly under implant.
+    X1,
+    /// OddTerminals: conducting diffusion does not lie along two opposite sides of a channel region, and nowhere along the others.
+    X2,
+    /// OddLoad: a depletion device is no load.
+    X3,
+    /// LabelOnNothing: a label's square does not conduct in the label's layer.
+    X4,
+    /// LabelsDisagree: a label's name stands on another net before, or its net bears another name before.
+    X5,
+    /// MissingPad: no label has the name VDD, GND, PHI1, PHI2 or RESET.
+    X6,
     /// BadBit: a line of a trace is empty or has a byte that is neither `0` nor `1`, and is not `chip`.
     V1,
     /// WrongWidth: a vector has not as many bits as the network has input pads.
@@ -101,6 +146,43 @@ impl Code {
             NetCode::N4 => Code::N4,
             NetCode::N5 => Code::N5,
             NetCode::N6 => Code::N6,
+        }
+    }
+
+    /// The code of a fault in a CIF text, or in what it draws.
+    pub(crate) fn of_cif(code: CifCode) -> Code
+        ensures { result ≡ cif_code code }
+    {
+        match code {
+            CifCode::C1 => Code::C1,
+            CifCode::C2 => Code::C2,
+            CifCode::C3 => Code::C3,
+            CifCode::C4 => Code::C4,
+            CifCode::C5 => Code::C5,
+            CifCode::C6 => Code::C6,
+            CifCode::C7 => Code::C7,
+            CifCode::C8 => Code::C8,
+            CifCode::C9 => Code::C9,
+            CifCode::C10 => Code::C10,
+            CifCode::C11 => Code::C11,
+            CifCode::C12 => Code::C12,
+            CifCode::C13 => Code::C13,
+            CifCode::C14 => Code::C14,
+            CifCode::C15 => Code::C15,
+        }
+    }
+
+    /// The code of squares and labels that stand for no network.
+    pub(crate) fn of_extract(code: ExtractCode) -> Code
+        ensures { result ≡ extract_code code }
+    {
+        match code {
+            ExtractCode::X1 => Code::X1,
+            ExtractCode::X2 => Code::X2,
+            ExtractCode::X3 => Code::X3,
+            ExtractCode::X4 => Code::X4,
+            ExtractCode::X5 => Code::X5,
+            ExtractCode::X6 => Code::X6,
         }
     }
 

@@ -8,6 +8,7 @@ ghost use Rattle.rxc_program.specs.Naming.{HasLeafCount};
 ghost use Rattle.rxc_program.specs.Promises.{CompilesAccepted, JudgesInput, ReportsWords, RunsCommand, ShowsLanguages};
 
 use crate::demo::demo;
+use crate::extract::extract;
 use crate::laws::{inputs_are_judged, networks_show_their_languages};
 use crate::log::told;
 use crate::net::net;
@@ -73,6 +74,7 @@ fn serve<S: Source, O: Sink>(alloc: Global, command: Command, src: &mut S, out: 
         Command::Net => net(alloc, src, out),
         Command::Pla => pla(alloc, src, out),
         Command::Tree => tree(alloc, src, out),
+        Command::Extract => extract(alloc, src, out),
         Command::Sim => sim(alloc, src, out),
         Command::Report => report(alloc, src, out),
         Command::Demo { start, leaves } => demo(alloc, start, leaves, out),

@@ -54,6 +54,8 @@ pub enum Command {
     Pla,
     /// A specification in, the CIF text of its tree-shaped layout out.
     Tree,
+    /// A CIF text in, the text of the switch network that it stands for out.
+    Extract,
     /// A trace and the text of a network in, the levels of the network's outputs after each clock out.
     Sim,
     /// A specification in, the counts and areas of its layouts out.
@@ -95,6 +97,8 @@ fn lone_command(word: &RxWord) -> Option<Command>
         Some(Command::Pla)
     } else if word.is(b"tree") {
         Some(Command::Tree)
+    } else if word.is(b"extract") {
+        Some(Command::Extract)
     } else if word.is(b"sim") {
         Some(Command::Sim)
     } else if word.is(b"report") {

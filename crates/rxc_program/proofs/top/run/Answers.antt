@@ -14,20 +14,20 @@ returns-in-Ok-clause-compiles g c =
     let source = change g.S.Source.left g.S.Source.faults c.args.src.now c.serve.new.src in
     let sink = change g.O.Sink.held g.O.Sink.faults c.args.out.now c.serve.new.out in
     compiles_accepted c.args.words.now source sink c.serve.result (returns-in-Ok-clause-run g c)
-    c.inputs_are_judged.ensures c.texts_are_accepted_or_refused.ensures.one_specification
+    c.inputs_are_judged.ensures.judged c.texts_are_accepted_or_refused.ensures.one_specification
 
 pub returns-in-Ok-clause-languages : goal.returns-in-Ok-clause-languages
 returns-in-Ok-clause-languages g c =
     let source = change g.S.Source.left g.S.Source.faults c.args.src.now c.serve.new.src in
     let sink = change g.O.Sink.held g.O.Sink.faults c.args.out.now c.serve.new.out in
     shows_languages c.args.words.now source sink c.serve.result (returns-in-Ok-clause-run g c)
-    c.inputs_are_judged.ensures c.networks_show_their_languages.ensures.files
+    c.inputs_are_judged.ensures.judged c.networks_show_their_languages.ensures.files
 
 pub returns-in-Ok-clause-known : goal.returns-in-Ok-clause-known
 returns-in-Ok-clause-known g c =
     let source = change g.S.Source.left g.S.Source.faults c.args.src.now c.serve.new.src in
     let sink = change g.O.Sink.held g.O.Sink.faults c.args.out.now c.serve.new.out in
-    judges_input c.args.words.now source sink c.serve.result (returns-in-Ok-clause-run g c) c.inputs_are_judged.ensures
+    judges_input c.args.words.now source sink c.serve.result (returns-in-Ok-clause-run g c) c.inputs_are_judged.ensures.judged
 
 pub returns-in-Ok-clause-usage : goal.returns-in-Ok-clause-usage
 returns-in-Ok-clause-usage g c =

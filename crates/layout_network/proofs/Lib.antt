@@ -1,0 +1,4 @@
+mod FlatBoxes
+mod LabelNames
+mod OneReading
+mod Read

@@ -1,0 +1,4 @@
+-- Definitions that public contracts cite:
+pub mod Layouts
+pub mod Reading
+pub mod OneReading
