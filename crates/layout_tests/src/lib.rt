@@ -2,6 +2,10 @@
 #![tactic(auto)]
 
 #[cfg(test)]
+mod cif_reading;
+#[cfg(test)]
+mod cif_refusals;
+#[cfg(test)]
 mod cif_sentences;
 #[cfg(test)]
 mod cif_texts;

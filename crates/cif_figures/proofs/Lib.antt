@@ -1,0 +1,15 @@
+pub mod ByKind
+pub mod Simple
+pub mod Defining
+pub mod Multiples
+pub mod Boxing
+pub mod Places
+pub mod Clear
+pub mod Drawing
+pub mod Scaling
+pub mod PolygonPoints
+pub mod Words
+pub mod Stepping
+pub mod Calling
+pub mod WirePoints
+pub mod Wiring
