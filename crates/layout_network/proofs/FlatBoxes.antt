@@ -27,7 +27,7 @@ among_right (y ∷ xs) ys x at = inr (among_right xs ys x at)
 pub among_cases : {X : Type 0} (xs ys : List X) (x : X) → Among (xs ++ ys) x → Among xs x ⊎ Among ys x
 among_cases [] ys x at = inr at
 among_cases (y ∷ xs) ys x (inl e) = inl (inl e)
-among_cases (y ∷ xs) ys x (inr more) = elim (among_cases xs ys x more) [ | inl left ↦ inl (inr left) | inr right ↦ inr right ]
+among_cases (y ∷ xs) ys x (inr more) = elim (among_cases xs ys x more) [ inl left ↦ inl (inr left) | inr right ↦ inr right ]
 
 -- ---- boxes of commands
 
@@ -55,7 +55,7 @@ few_from before (stroke ∷ strokes) clear few =
     let whole : length (stroke.boxes ++ stroke_boxes strokes) ≡ length stroke.boxes + length (stroke_boxes strokes) =
     length-append stroke.boxes (stroke_boxes strokes) in
     let here : length (stroke_boxes before) + length stroke.boxes ≤ most_boxes =
-    elim (cases_lt most_boxes (length (stroke_boxes before) + length stroke.boxes)) [ | inl many ↦ absurd (clear.0 C13 many) | inr some ↦ some ] in
+    elim (cases_lt most_boxes (length (stroke_boxes before) + length stroke.boxes)) [ inl many ↦ absurd (clear.0 C13 many) | inr some ↦ some ] in
     let rest = few_from (before ++ stroke ∷ []) strokes clear.1 (omega (arith, count, here)) in
     omega (arith, count, whole, rest)
 

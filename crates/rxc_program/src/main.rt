@@ -33,6 +33,8 @@ pub use top::rxc;
 pub use words::RxWord;
 
 #[cfg(test)]
+mod extract_rows;
+#[cfg(test)]
 mod pla_rows;
 #[cfg(test)]
 mod report_rows;

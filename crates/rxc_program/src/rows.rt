@@ -32,6 +32,10 @@ pub(crate) enum End {
     Done,
     /// The code, the line and the column.
     Refused(Code, u32, u32),
+    /// The code and the square.
+    Square(Code, i64, i64),
+    /// The code, of the input as a whole.
+    Whole(Code),
     TooLong,
     /// The number of the word.
     Usage(u32),
@@ -56,6 +60,14 @@ pub(crate) fn status_of(end: &End) -> Status {
                 line: *line,
                 column: *column,
             },
+        },
+        End::Square(code, x, y) => Status::Refused {
+            code: *code,
+            place: Place::Square { x: *x, y: *y },
+        },
+        End::Whole(code) => Status::Refused {
+            code: *code,
+            place: Place::Whole,
         },
         End::TooLong => Status::Refused {
             code: Code::I1,

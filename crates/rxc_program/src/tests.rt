@@ -1,4 +1,5 @@
 //! Runs of the program over memory: each row of the tables, and inputs that are cut or noise.
+use crate::extract_rows::EXTRACT_ROWS;
 use crate::pla_rows::PLA_ROWS;
 use crate::report_rows::{LARGE_REPORT_ROWS, REPORT_ROWS};
 use crate::rows::{FAILING, FRONTS, Failing, Input, ONE, Output, ROWS, Row, status_of};
@@ -139,6 +140,11 @@ fn arrays_come_out(rt: HostRuntime) -> Result<(), Fail> {
 #[test]
 fn layouts_of_trees_come_out(rt: HostRuntime) -> Result<(), Fail> {
     rows_come_out(&rt, rt.alloc(), TREE_ROWS)
+}
+
+#[test]
+fn layouts_are_extracted(rt: HostRuntime) -> Result<(), Fail> {
+    rows_come_out(&rt, rt.alloc(), EXTRACT_ROWS)
 }
 
 #[test]
