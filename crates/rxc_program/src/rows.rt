@@ -48,6 +48,8 @@ pub(crate) enum Output {
     Is(&'static [u8]),
     /// A front, a part somewhere, and an end.
     Holds(&'static [u8], &'static [u8], &'static [u8]),
+    /// The text of a network without devices, with this front.
+    Bare(&'static [u8]),
 }
 
 /// The status of the end.

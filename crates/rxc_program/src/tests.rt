@@ -102,6 +102,10 @@ fn is_output(out: &[u8], output: &Output) -> bool {
         Output::Holds(front, part, end) => {
             out.starts_with(front) && has(out, part) && out.ends_with(end)
         }
+        Output::Bare(front) => {
+            let is_bare = !has(out, b"\npass ") && !has(out, b"\nload ");
+            out.starts_with(front) && is_bare && out.ends_with(b"\nend\n")
+        }
     }
 }
 
@@ -194,6 +198,7 @@ fn noise_is_refused(rt: HostRuntime) -> Result<(), Fail> {
         assert!(rt; is_refused(rt.alloc(), b"tree", &text)?, "{seed}");
         assert!(rt; is_refused(rt.alloc(), b"sim", &text)?, "{seed}");
         assert!(rt; is_refused(rt.alloc(), b"report", &text)?, "{seed}");
+        assert!(rt; is_refused(rt.alloc(), b"extract", &text)?, "{seed}");
     }
     Ok(())
 }
