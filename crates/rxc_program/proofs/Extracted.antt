@@ -1,9 +1,9 @@
 -- Layouts as inputs, and the text of their networks as output.
-use Rattle.std.proofs.Common.{◌≡◌, ℕ, ◌≤◌, List, All, refl, sym, ◌∙◌, ap}
+use Rattle.std.proofs.Common.{◌≡◌, ℕ, List, All, refl, sym, ◌∙◌, ap}
 use Rattle.rx_text.specs.declared.place.Place.{Place}
 use Rattle.geom.specs.CifLabels.{IsPadName}
 use Rattle.switch_net.specs.Circuit.{Circuit}
-use Rattle.net_text.specs.NetworkText.{IsNetworkText, network_text}
+use Rattle.net_text.specs.NetworkText.{network_text}
 use Rattle.layout_network.specs.Layouts.{IsLayout}
 use Rattle.layout_network.specs.OneReading.{LayoutsHaveOneReading}
 use Rattle.rxc_program.specs.Endings.{Change}

@@ -11,7 +11,7 @@ use Rattle.rx_text.specs.declared.place.Place.TheVariants.{Whole}
 use Rattle.rxc_program.proofs.DrivenJudged.{TraceLaws, NetLaws, driven_or_broken, driven_not_broken, one_break}
 use Rattle.rxc_program.proofs.Endings.{IsReading}
 use Rattle.rxc_program.proofs.Extracted.{layouts_apart, one_layout_break}
-use Rattle.rxc_program.specs.Behaviour.{Behaviour, InputsAreJudged, IsAcceptedInput, IsDecided, IsRefusedInput, IsTooLong, most_input_bytes}
+use Rattle.rxc_program.specs.Behaviour.{Behaviour, InputsAreJudged, IsDecided, IsRefusedInput, IsTooLong, most_input_bytes}
 use Rattle.rxc_program.specs.Codes.{spec_code}
 use Rattle.rxc_program.specs.Commands.{InputsAreDecided, behaviour}
 use Rattle.rxc_program.specs.Compiling.{compiling}
