@@ -1,16 +1,14 @@
 -- Calls, and definitions that are closed.
-use Rattle.std.proofs.Common.{◌≡◌, ◌≢◌, ℕ, zero, suc, Bool, ◌+◌, ◌^◌, ◌<◌, ◌≤◌, ◌==◌, cond, max, List, [], ◌∷◌, ◌++◌, length, get_or, map, reverse, fold, Option, Some, None, inl, inr, refl, sym, ◌∙◌, ap, subst, arith}
-use Rattle.std.specs.List.{flat_map}
+use Rattle.std.proofs.Common.{◌≡◌, ◌≢◌, ℕ, Bool, ◌+◌, ◌^◌, ◌<◌, ◌≤◌, ◌==◌, cond, max, List, [], ◌∷◌, ◌++◌, length, get_or, map, reverse, fold, Option, Some, None, inl, refl, sym, ◌∙◌, ap, subst, arith}
 use Rattle.std.proofs.lemmas.List.{reverse-append}
 use Rattle.std.proofs.lemmas.Bool.{ne_eqb}
 use Rattle.rx_text.specs.declared.place.Place.{Place}
 use Rattle.geom.specs.declared.chip.Label.{Label}
 use Rattle.geom.specs.Squares.{BoxShape}
 use Rattle.geom.specs.Rows.{Among}
-use Rattle.geom.specs.CifDrawings.{CifSymbol, CifStroke, CifDrawing, chain_if_drawn, stroke_of}
+use Rattle.geom.specs.CifDrawings.{CifSymbol, CifStroke, chain_if_drawn}
 use Rattle.cif_drawing.specs.declared.ink.Call.{Call}
-use Rattle.cif_drawing.specs.declared.ink.Ink.{Ink}
-use Rattle.cif_drawing.specs.declared.ink.Ink.TheVariants.{Called}
+use Rattle.cif_drawing.specs.Shapes.{InkShape, Called}
 use Rattle.cif_drawing.specs.declared.ink.Symbol.{Symbol}
 use Rattle.cif_drawing.specs.declared.ink.Stroke.{Stroke}
 use Rattle.cif_drawing.specs.declared.placement.Placement.{Placement}
@@ -18,13 +16,13 @@ use Rattle.cif_drawing.specs.declared.placement.Step.{Step}
 use Rattle.cif_drawing.specs.declared.measure.Measure.{Measure}
 use Rattle.cif_drawing.specs.Placements.{IsOrdered, placed, IsNear, step_box, stepped_boxes}
 use Rattle.cif_drawing.specs.Measures.{IsMeasure}
-use Rattle.cif_drawing.specs.Inks.{symbol_at, ink_boxes, ink_chain, inks_boxes, cif_symbol, with_symbol, closed_symbols, cif_stroke, strokes_of, drawing_of, IsCall, IsInk, IsInkOf, IsSymbol, AreSymbols, AreStrokes}
+use Rattle.cif_drawing.specs.Inks.{symbol_at, ink_boxes, ink_chain, inks_boxes, cif_symbol, with_symbol, closed_symbols, cif_stroke, strokes_of, drawing_of, IsCall, IsInk, AreSymbols, AreStrokes}
 use Rattle.cif_drawing.specs.Numbers.{IsIndex, IsIndexOf}
-use Rattle.cif_drawing.specs.Parts.{DrawingParts, part_boxes, part_chain, chain_or_none, drawn_parts, drawn_symbol, closed_parts}
+use Rattle.cif_drawing.specs.Parts.{DrawingParts, part_boxes, part_chain, chain_or_none, drawn_parts, closed_parts}
 use Rattle.cif_drawing.specs.Building.{parts_of, open_symbol, IsBuilding, IsAdded}
 use Rattle.cif_drawing.proofs.Lists.{append_nil, map_alike, no_append}
 use Rattle.cif_drawing.proofs.Measured.{measure_ordered}
-use Rattle.cif_drawing.proofs.Standing.{StandsAt, symbol_stands, one_more, symbols_more, ink_stays, ink_of_still, length_closed}
+use Rattle.cif_drawing.proofs.Standing.{StandsAt, one_more, symbols_more, ink_stays, ink_of_still, length_closed}
 use Rattle.cif_drawing.proofs.Expanded.{index_stands}
 use Rattle.cif_drawing.proofs.Numbers.{found, index_found, none_found}
 use Rattle.cif_drawing.proofs.Inking.{IsNewInk, ink_draws, Draws, added_draws}
@@ -38,11 +36,11 @@ some_boxes : (boxes : List BoxShape) (n : ℕ) → boxes ≢ [] → chain_if_dra
 some_boxes [] n h = absurd (h refl)
 some_boxes (b ∷ bs) n h = refl
 
-inks_draw : (closed : List CifSymbol) (inks : List Ink) → ((i : Ink) → Among inks i → IsInk closed i) → inks ≢ [] → inks_boxes closed inks ≢ []
+inks_draw : (closed : List CifSymbol) (inks : List InkShape) → ((i : InkShape) → Among inks i → IsInk closed i) → inks ≢ [] → inks_boxes closed inks ≢ []
 inks_draw closed [] h some = absurd (some refl)
 inks_draw closed (i ∷ is) h some = no_append (ink_boxes closed i) (inks_boxes closed is) (ink_draws closed i (h i (inl refl)))
 
-chain_by : (closed : List CifSymbol) (inks : List Ink) (n : ℕ) → ((i : Ink) → Among inks i → IsInk closed i)
+chain_by : (closed : List CifSymbol) (inks : List InkShape) (n : ℕ) → ((i : InkShape) → Among inks i → IsInk closed i)
     → chain_if_drawn (inks_boxes closed inks) n ≡ cond (length inks == 0) 0 (n + 1)
 chain_by closed [] n h = refl
 chain_by closed (i ∷ is) n h =

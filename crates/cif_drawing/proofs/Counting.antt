@@ -1,11 +1,11 @@
 -- The strokes so far.
-use Rattle.std.proofs.Common.{◌≡◌, ℕ, suc, ◌+◌, ◌<◌, ◌≤◌, Bool, true, ◌&&◌, List, [], ◌∷◌, ◌++◌, length, get_or, take, drop, map, inl, inr, refl, sym, ◌∙◌, ap, subst, length-append, arith}
-use Rattle.std.specs.List.{list_all, flat_map}
+use Rattle.std.proofs.Common.{◌≡◌, ℕ, ◌+◌, ◌<◌, ◌≤◌, true, List, [], ◌∷◌, ◌++◌, length, get_or, take, drop, map, inl, inr, refl, sym, ◌∙◌, ap, subst, length-append, arith}
+use Rattle.std.specs.List.{list_all}
 use Rattle.std.proofs.lemmas.List.{map-append, take_all}
 use Rattle.std.proofs.lemmas.List.Folds.{list_all-append}
 use Rattle.geom.specs.Squares.{BoxShape, IsBox}
 use Rattle.geom.specs.Rows.{Among}
-use Rattle.geom.specs.CifDrawings.{CifSymbol, CifStroke}
+use Rattle.geom.specs.CifDrawings.{CifStroke}
 use Rattle.geom.specs.CifRefusals.{stroke_boxes, NoStrokeFault}
 use Rattle.cif_drawing.specs.declared.ink.Symbol.{Symbol}
 use Rattle.cif_drawing.specs.declared.ink.Stroke.{Stroke}
@@ -15,7 +15,7 @@ use Rattle.cif_drawing.specs.Placements.{IsOrdered, placed}
 use Rattle.cif_drawing.specs.Measures.{is_box}
 use Rattle.cif_drawing.specs.Inks.{closed_symbols, ink_boxes, cif_stroke, strokes_of}
 use Rattle.cif_drawing.specs.Flattening.{IsFlattenFault, IsCountOf, IsFaultOf}
-use Rattle.cif_drawing.proofs.Lists.{append_nil, map_alike, taken_item, parted_item, among_item}
+use Rattle.cif_drawing.proofs.Lists.{map_alike, taken_item, parted_item}
 use Rattle.cif_drawing.proofs.Tests.{and_true, and_left, and_right, all_boxes, ordered_box}
 use Rattle.cif_drawing.proofs.Refusing.{boxes_more, clear_more, clear_stroke, refused}
 

@@ -16,9 +16,10 @@ use crate::measure::Measure;
 use crate::measuring::{joined, measure_boxes};
 use crate::placement::{Placement, Step};
 use crate::symbols::Symbols;
+use crate::text_place::TextPlace;
 use cif_shapes::polygon_boxes;
 use geom::{Box2, Label, Layer, Point};
-use rx_text::{NoMemory, Place};
+use rx_text::NoMemory;
 use std::alloc::Global;
 use std::marker::Model;
 
@@ -115,19 +116,13 @@ impl DrawingBuilder {
     /// # Errors
     ///
     /// `NoMemory` where an allocation was refused.
-    pub fn add_box(&mut self, place: Place, b: Box2) -> Result<(), NoMemory>
+    pub fn add_box(&mut self, alloc: Global, place: TextPlace, b: Box2) -> Result<(), NoMemory>
         ensures { OnOk result (self.new ≡ drawn_parts self.old place (b ∷ []) 0 self.old.opening) }
     {
-        let opening = self.opening.take();
+        let ink = Ink::single(alloc, b)?;
         let measure = Some(Measure::of(b));
-        self.opening = added(
-            opening,
-            &mut self.strokes,
-            place,
-            Ink::Single(b),
-            measure,
-            0,
-        )?;
+        let opening = self.opening.take();
+        self.opening = added(opening, &mut self.strokes, place, ink, measure, 0)?;
         Ok(())
     }
 
@@ -136,13 +131,18 @@ impl DrawingBuilder {
     /// # Errors
     ///
     /// `NoMemory` where an allocation was refused.
-    pub fn add_boxes(&mut self, place: Place, boxes: Vec<Box2>) -> Result<(), NoMemory>
+    pub fn add_boxes(
+        &mut self,
+        alloc: Global,
+        place: TextPlace,
+        boxes: Vec<Box2>,
+    ) -> Result<(), NoMemory>
         ensures { OnOk result (self.new ≡ drawn_parts self.old place boxes.items 0 self.old.opening) }
     {
         match measure_boxes(&boxes) {
             Some(measure) => {
+                let ink = Ink::several(alloc, boxes)?;
                 let opening = self.opening.take();
-                let ink = Ink::Several(boxes);
                 self.opening = added(opening, &mut self.strokes, place, ink, Some(measure), 0)?;
                 Ok(())
             }
@@ -158,7 +158,7 @@ impl DrawingBuilder {
     pub fn add_polygon(
         &mut self,
         alloc: Global,
-        place: Place,
+        place: TextPlace,
         layer: Layer,
         points: &[Point],
     ) -> Result<(), NoMemory>
@@ -167,7 +167,7 @@ impl DrawingBuilder {
             × (self.new ≡ drawn_parts self.old place boxes 0 self.old.opening)) }
     {
         let boxes = polygon_boxes(alloc, layer, points)?;
-        self.add_boxes(place, boxes)
+        self.add_boxes(alloc, place, boxes)
     }
 
     /// Calls the closed definition of this number, with transformations that act from left to right.
@@ -175,7 +175,13 @@ impl DrawingBuilder {
     /// # Errors
     ///
     /// `NoMemory` where an allocation was refused.
-    pub fn call(&mut self, place: Place, number: u64, steps: &[Step]) -> Result<(), NoMemory>
+    pub fn call(
+        &mut self,
+        alloc: Global,
+        place: TextPlace,
+        number: u64,
+        steps: &[Step],
+    ) -> Result<(), NoMemory>
         requires defined { IsSome (part_of self.old number) }
         requires short { chain_or_none (part_of self.old number) ≤ 64 }
         requires steps { (step : Step) → Among steps.now step → IsStep step }
@@ -190,10 +196,13 @@ impl DrawingBuilder {
                     return Ok(());
                 }
                 let placement = Placement::of(steps);
-                let ink = Ink::Called(Call {
-                    symbol: index,
-                    placement,
-                });
+                let ink = Ink::called(
+                    alloc,
+                    Call {
+                        symbol: index,
+                        placement,
+                    },
+                )?;
                 let measure = measure_ink(symbols, &ink);
                 let opening = self.opening.take();
                 self.opening = added(opening, &mut self.strokes, place, ink, measure, chain)?;
@@ -243,7 +252,7 @@ fn chain_of_call(symbol: &Symbol) -> u64
 fn added(
     opening: Option<Symbol>,
     strokes: &mut Vec<Stroke>,
-    place: Place,
+    place: TextPlace,
     ink: Ink,
     measure: Option<Measure>,
     chain: u64,

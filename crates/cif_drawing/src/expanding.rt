@@ -19,10 +19,9 @@ pub fn measure_ink(symbols: &[Symbol], ink: &Ink) -> Option<Measure>
     requires ink { IsInk (closed_symbols symbols.now) ink.now }
     ensures { IsMeasure (ink_chain (closed_symbols symbols.now) ink.now) result (ink_boxes (closed_symbols symbols.now) ink.now) }
 {
-    match ink {
-        Ink::Single(b) => Some(Measure::of(*b)),
-        Ink::Several(boxes) => measure_boxes(boxes),
-        Ink::Called(call) => called(symbol_of(symbols, call).measure, call.placement),
+    match ink.call() {
+        Some(call) => called(symbol_of(symbols, call).measure, call.placement),
+        None => measure_boxes(ink.boxes()),
     }
 }
 
@@ -41,23 +40,22 @@ pub fn expand(
     ensures { OnOk result
         (boxes.new.items ≡ boxes.old.items ++ map (placed placement) (ink_boxes (closed_symbols symbols.now) ink.now)) }
 {
-    match ink {
-        Ink::Single(b) => boxes.push(place(*b, placement))?,
-        Ink::Several(several) => add_placed(several, placement, boxes)?,
-        Ink::Called(call) => {
+    match ink.call() {
+        Some(call) => {
             let inner = call.placement.then(placement);
             for ink in &symbol_of(symbols, call).inks {
                 expand(symbols, ink, inner, boxes)?;
             }
+            Ok(())
         }
+        None => add_placed(ink.boxes(), placement, boxes),
     }
-    Ok(())
 }
 
 /// The symbol that is called.
-fn symbol_of<'a>(symbols: &'a [Symbol], call: &Call) -> &'a Symbol
-    requires { call.now.symbol < length symbols.now }
-    ensures { result.now ≡ slice_index_or symbols.now call.now.symbol result.now }
+fn symbol_of(symbols: &[Symbol], call: Call) -> &Symbol
+    requires { call.symbol < length symbols.now }
+    ensures { result.now ≡ slice_index_or symbols.now call.symbol result.now }
 {
     &symbols[call.symbol]
 }

@@ -126,10 +126,10 @@ fn count_stroke(symbols: &[Symbol], stroke: &Stroke, before: usize) -> Result<us
         return Ok(0);
     };
     if !measure.extent.is_box() {
-        return Err(fault(CifCode::C8, stroke.place));
+        return Err(fault(CifCode::C8, stroke.place.place()));
     }
     if MOST_BOXES - (before as u64) < measure.count {
-        return Err(fault(CifCode::C13, stroke.place));
+        return Err(fault(CifCode::C13, stroke.place.place()));
     }
     Ok(measure.count as usize)
 }

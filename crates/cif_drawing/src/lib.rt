@@ -11,6 +11,7 @@ mod measure;
 mod measuring;
 mod placement;
 mod symbols;
+mod text_place;
 mod wide_point;
 
 pub use building::DrawingBuilder;
@@ -19,3 +20,4 @@ pub use flattening::{Flat, FlattenFault, flatten};
 pub use laws::{polygons_have_one_list, texts_draw_flat_boxes};
 pub use placement::Step;
 pub use rx_text::NoMemory;
+pub use text_place::TextPlace;

@@ -1,8 +1,8 @@
 -- One stroke after another is listed.
-use Rattle.std.proofs.Common.{sym, ◌∙◌, ap, arith}
+use Rattle.std.proofs.Common.{◌∙◌, ap, arith}
 use Rattle.std.specs.List.{list_all}
 use Rattle.cif_drawing.specs.Measures.{is_box}
-use Rattle.cif_drawing.specs.Inks.{closed_symbols, ink_boxes, IsInkOf}
+use Rattle.cif_drawing.specs.Inks.{closed_symbols, ink_boxes}
 use Rattle.cif_drawing.proofs.Lists.{among_item}
 use Rattle.cif_drawing.proofs.Counting.{ink_within, still_same, listed_next, listed_within}
 use Rattle.cif_drawing.proofs.flattening.list_boxes.Goals as goal
