@@ -6,7 +6,7 @@ use Rattle.std.proofs.lemmas.List.Folds.{list_all-append}
 use Rattle.geom.specs.Squares.{BoxShape}
 use Rattle.geom.specs.Rows.{Among}
 use Rattle.geom.specs.CifDrawings.{CifSymbol}
-use Rattle.cif_drawing.specs.declared.ink.Call.{Call}
+use Rattle.cif_drawing.specs.declared.kept.Call.{Call}
 use Rattle.cif_drawing.specs.Shapes.{InkShape, Drawn, Called, call_in, boxes_in}
 use Rattle.cif_drawing.specs.declared.ink.Symbol.{Symbol}
 use Rattle.cif_drawing.specs.declared.placement.Placement.{Placement}

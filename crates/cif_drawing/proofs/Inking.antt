@@ -7,9 +7,8 @@ use Rattle.geom.specs.declared.chip.Label.{Label}
 use Rattle.geom.specs.Squares.{BoxShape}
 use Rattle.geom.specs.Rows.{Among}
 use Rattle.geom.specs.CifDrawings.{CifSymbol, CifStroke, stroke_of}
-use Rattle.cif_drawing.specs.Shapes.{InkShape, Drawn, Called}
+use Rattle.cif_drawing.specs.Shapes.{InkShape, StrokeShape, Drawn, Called}
 use Rattle.cif_drawing.specs.declared.ink.Symbol.{Symbol}
-use Rattle.cif_drawing.specs.declared.ink.Stroke.{Stroke}
 use Rattle.cif_drawing.specs.declared.measure.Measure.{Measure}
 use Rattle.cif_drawing.specs.Placements.{placed}
 use Rattle.cif_drawing.specs.Measures.{IsMeasure}
@@ -73,28 +72,28 @@ inked_is closed old new ink measure chain h k s = record {
       ]
     ]
 
-strokes_one : (symbols : List Symbol) (strokes : List Stroke) (s : Stroke) → strokes_of symbols (strokes ++ s ∷ []) ≡ strokes_of symbols strokes ++ cif_stroke (closed_symbols symbols) s ∷ []
+strokes_one : (symbols : List Symbol) (strokes : List StrokeShape) (s : StrokeShape) → strokes_of symbols (strokes ++ s ∷ []) ≡ strokes_of symbols strokes ++ cif_stroke (closed_symbols symbols) s ∷ []
 strokes_one symbols strokes s = map-append (cif_stroke (closed_symbols symbols)) strokes (s ∷ [])
 
 -- What is added keeps what holds, and draws its boxes.
-pub record Draws (symbols : List Symbol) (opening : Option Symbol) (strokes : List Stroke) (labels : List Label) (place : Place) (boxes : List BoxShape) (chain : ℕ)
-    (opening' : Option Symbol) (strokes' : List Stroke) : Type 0 where
+pub record Draws (symbols : List Symbol) (opening : Option Symbol) (strokes : List StrokeShape) (labels : List Label) (place : Place) (boxes : List BoxShape) (chain : ℕ)
+    (opening' : Option Symbol) (strokes' : List StrokeShape) : Type 0 where
   pub holds : IsBuilding symbols opening' strokes'
   pub parts : parts_of symbols opening' strokes' labels
       ≡ drawn_parts (parts_of symbols opening strokes labels) place boxes chain (open_symbol (closed_symbols symbols) opening)
 
-pub added_draws : (symbols : List Symbol) (opening opening' : Option Symbol) (strokes strokes' : List Stroke) (labels : List Label) (place : Place) (ink : InkShape)
+pub added_draws : (symbols : List Symbol) (opening opening' : Option Symbol) (strokes strokes' : List StrokeShape) (labels : List Label) (place : Place) (ink : InkShape)
     (measure : Option Measure) (chain : ℕ) → IsBuilding symbols opening strokes → IsNewInk (closed_symbols symbols) ink measure chain
     → IsAdded opening strokes place ink measure chain opening' strokes'
     → Draws symbols opening strokes labels place (ink_boxes (closed_symbols symbols) ink) chain opening' strokes'
 added_draws symbols None None strokes strokes' labels place ink measure chain h k a =
     let closed : List CifSymbol = closed_symbols symbols in
-    let stroke : Stroke = record { place = place; ink = ink } in
+    let stroke : StrokeShape = record { place = place; ink = ink } in
     record {
       holds = record {
         drawing = record {
           symbols = h.drawing.symbols;
-          strokes = λ s i. of s (let P : List Stroke → Type 0 = λ l. Among l s in subst P a i);
+          strokes = λ s i. of s (let P : List StrokeShape → Type 0 = λ l. Among l s in subst P a i);
         };
         opening = tt;
       };
@@ -104,11 +103,11 @@ added_draws symbols None None strokes strokes' labels place ink measure chain h 
           ∙ ap (λ (l : List CifStroke). strokes_of symbols strokes ++ l) (sym (stroke_drawn place (ink_boxes closed ink) (ink_draws closed ink k.is.ink)))));
     }
   where
-    of : (s : Stroke) → Among (strokes ++ record { place = place; ink = ink } ∷ []) s → IsInkOf (closed_symbols symbols) 64 s.ink
+    of : (s : StrokeShape) → Among (strokes ++ record { place = place; ink = ink } ∷ []) s → IsInkOf (closed_symbols symbols) 64 s.ink
     of s i = elim (among_cases strokes (record { place = place; ink = ink } ∷ []) s i) [
       | inl j ↦ h.drawing.strokes s j
       | inr j ↦ elim j [
-        | inl e ↦ (let P : Stroke → Type 0 = λ v. IsInkOf (closed_symbols symbols) 64 v.ink in subst P e (ink_of_more (closed_symbols symbols) chain 64 ink k.short k.is))
+        | inl e ↦ (let P : StrokeShape → Type 0 = λ v. IsInkOf (closed_symbols symbols) 64 v.ink in subst P e (ink_of_more (closed_symbols symbols) chain 64 ink k.short k.is))
         | inr n ↦ absurd n
       ]
     ]
@@ -116,7 +115,7 @@ added_draws symbols None (Some new) strokes strokes' labels place ink measure ch
 added_draws symbols (Some old) None strokes strokes' labels place ink measure chain h k a = absurd a
 added_draws symbols (Some old) (Some new) strokes strokes' labels place ink measure chain h k a =
     let closed : List CifSymbol = closed_symbols symbols in
-    let P : List Stroke → Type 0 = λ l. AreStrokes closed l in
+    let P : List StrokeShape → Type 0 = λ l. AreStrokes closed l in
     let Q : ℕ → Type 0 = λ n. IsIndexOf symbols n None in
     record {
       holds = record {
@@ -126,7 +125,7 @@ added_draws symbols (Some old) (Some new) strokes strokes' labels place ink meas
       parts =
           ap (λ (s : CifSymbol). record { symbols = reverse closed; opening = Some s; drawing = drawing_of symbols strokes' labels })
           (inked_symbol closed old new ink measure chain a.0)
-          ∙ ap (λ (l : List Stroke). record {
+          ∙ ap (λ (l : List StrokeShape). record {
             symbols = reverse closed;
             opening = Some (drawn_symbol (cif_symbol closed old) (ink_boxes closed ink) chain);
             drawing = drawing_of symbols l labels;
@@ -134,7 +133,7 @@ added_draws symbols (Some old) (Some new) strokes strokes' labels place ink meas
     }
 
 -- boxes that are added
-pub boxes_draw : (symbols : List Symbol) (opening opening' : Option Symbol) (strokes strokes' : List Stroke) (labels : List Label) (place : Place) (ink : InkShape)
+pub boxes_draw : (symbols : List Symbol) (opening opening' : Option Symbol) (strokes strokes' : List StrokeShape) (labels : List Label) (place : Place) (ink : InkShape)
     (boxes : List BoxShape) (m : Measure) → ink ≡ Drawn boxes → IsMeasure 0 (Some m) boxes → IsBuilding symbols opening strokes
     → IsAdded opening strokes place ink (Some m) 0 opening' strokes' → Draws symbols opening strokes labels place boxes 0 opening' strokes'
 boxes_draw symbols opening opening' strokes strokes' labels place ink boxes m e h b a =

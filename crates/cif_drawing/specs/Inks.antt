@@ -4,10 +4,9 @@ use Rattle.geom.specs.declared.chip.Label.{Label}
 use Rattle.geom.specs.Squares.{BoxShape}
 use Rattle.geom.specs.Rows.{Among}
 use Rattle.geom.specs.CifDrawings.{CifSymbol, CifStroke, CifDrawing}
-use Rattle.cif_drawing.specs.declared.ink.Call.{Call}
-use Rattle.cif_drawing.specs.Shapes.{InkShape, Drawn, Called}
+use Rattle.cif_drawing.specs.declared.kept.Call.{Call}
+use Rattle.cif_drawing.specs.Shapes.{InkShape, StrokeShape, Drawn, Called}
 use Rattle.cif_drawing.specs.declared.ink.Symbol.{Symbol}
-use Rattle.cif_drawing.specs.declared.ink.Stroke.{Stroke}
 use Rattle.cif_drawing.specs.Placements.{placed, IsNear}
 use Rattle.cif_drawing.specs.Measures.{IsMeasure}
 
@@ -43,15 +42,15 @@ with_symbol closed s = closed ++ cif_symbol closed s ∷ []
 abbrev pub closed_symbols : List Symbol → List CifSymbol
 closed_symbols symbols = fold with_symbol [] symbols
 
-abbrev pub cif_stroke : List CifSymbol → Stroke → CifStroke
+abbrev pub cif_stroke : List CifSymbol → StrokeShape → CifStroke
 cif_stroke closed stroke = record { place = stroke.place; boxes = ink_boxes closed stroke.ink }
 
 -- the strokes that these are, behind symbols
-abbrev pub strokes_of : List Symbol → List Stroke → List CifStroke
+abbrev pub strokes_of : List Symbol → List StrokeShape → List CifStroke
 strokes_of symbols strokes = map (cif_stroke (closed_symbols symbols)) strokes
 
 -- the drawing that symbols, strokes and labels stand for
-abbrev pub drawing_of : List Symbol → List Stroke → List Label → CifDrawing
+abbrev pub drawing_of : List Symbol → List StrokeShape → List Label → CifDrawing
 drawing_of symbols strokes labels = record { strokes = strokes_of symbols strokes; labels = labels }
 
 -- The symbol that is called was defined before, and draws boxes.
@@ -82,10 +81,10 @@ AreSymbols closed [] = ⊤
 AreSymbols closed (s ∷ ss) = IsSymbol closed s × AreSymbols (with_symbol closed s) ss
 
 -- Each stroke draws boxes.
-abbrev pub AreStrokes : List CifSymbol → List Stroke → Type 0
-AreStrokes closed strokes = (stroke : Stroke) → Among strokes stroke → IsInkOf closed 64 stroke.ink
+abbrev pub AreStrokes : List CifSymbol → List StrokeShape → Type 0
+AreStrokes closed strokes = (stroke : StrokeShape) → Among strokes stroke → IsInkOf closed 64 stroke.ink
 
 -- Symbols and strokes of a drawing.
-pub record IsDrawing (ss : List Symbol) (drawn : List Stroke) : Type 0 where
+pub record IsDrawing (ss : List Symbol) (drawn : List StrokeShape) : Type 0 where
   pub symbols : AreSymbols [] ss
   pub strokes : AreStrokes (closed_symbols ss) drawn

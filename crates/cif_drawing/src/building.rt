@@ -7,11 +7,13 @@ ghost use Rattle.geom.specs.Squares.{BoxShape};
 ghost use Rattle.cif_shapes.specs.Polygons.{IsPolygon};
 ghost use Rattle.cif_drawing.specs.Placements.{IsStep, stepped_boxes};
 ghost use Rattle.cif_drawing.specs.Parts.{DrawingParts, blank_parts, part_of, part_boxes, part_chain, chain_or_none, opened_parts, closed_parts, drawn_parts, labelled_parts};
+ghost use Rattle.cif_drawing.specs.Shapes.{kept_ink, kept_place};
 ghost use Rattle.cif_drawing.specs.Building.{IsInked, IsAdded};
 
 use crate::drawing::Drawing;
-use crate::expanding::measure_ink;
-use crate::ink::{Call, Ink, Stroke, Symbol};
+use crate::expanding::measure_kept;
+use crate::ink::{Ink, Stroke, Symbol};
+use crate::kept::{Call, Kept};
 use crate::measure::Measure;
 use crate::measuring::{joined, measure_boxes};
 use crate::placement::{Placement, Step};
@@ -119,10 +121,10 @@ impl DrawingBuilder {
     pub fn add_box(&mut self, alloc: Global, place: TextPlace, b: Box2) -> Result<(), NoMemory>
         ensures { OnOk result (self.new ≡ drawn_parts self.old place (b ∷ []) 0 self.old.opening) }
     {
-        let ink = Ink::single(alloc, b)?;
+        let kept = Kept::single(alloc, place, b)?;
         let measure = Some(Measure::of(b));
         let opening = self.opening.take();
-        self.opening = added(opening, &mut self.strokes, place, ink, measure, 0)?;
+        self.opening = added(opening, &mut self.strokes, kept, measure, 0)?;
         Ok(())
     }
 
@@ -141,9 +143,9 @@ impl DrawingBuilder {
     {
         match measure_boxes(&boxes) {
             Some(measure) => {
-                let ink = Ink::several(alloc, boxes)?;
+                let kept = Kept::several(alloc, place, boxes)?;
                 let opening = self.opening.take();
-                self.opening = added(opening, &mut self.strokes, place, ink, Some(measure), 0)?;
+                self.opening = added(opening, &mut self.strokes, kept, Some(measure), 0)?;
                 Ok(())
             }
             None => Ok(()),
@@ -195,17 +197,14 @@ impl DrawingBuilder {
                 if chain == 0 {
                     return Ok(());
                 }
-                let placement = Placement::of(steps);
-                let ink = Ink::called(
-                    alloc,
-                    Call {
-                        symbol: index,
-                        placement,
-                    },
-                )?;
-                let measure = measure_ink(symbols, &ink);
+                let call = Call {
+                    symbol: index,
+                    placement: Placement::of(steps),
+                };
+                let kept = Kept::called(alloc, place, call)?;
+                let measure = measure_kept(symbols, &kept);
                 let opening = self.opening.take();
-                self.opening = added(opening, &mut self.strokes, place, ink, measure, chain)?;
+                self.opening = added(opening, &mut self.strokes, kept, measure, chain)?;
                 Ok(())
             }
             None => Ok(()),
@@ -252,18 +251,17 @@ fn chain_of_call(symbol: &Symbol) -> u64
 fn added(
     opening: Option<Symbol>,
     strokes: &mut Vec<Stroke>,
-    place: TextPlace,
-    ink: Ink,
+    kept: Kept,
     measure: Option<Measure>,
     chain: u64,
 ) -> Result<Option<Symbol>, NoMemory>
-    ensures added { IfOk result (λ new. IsAdded opening strokes.old.items place ink measure chain new strokes.new.items) }
+    ensures added { IfOk result (λ new. IsAdded opening strokes.old.items (kept_place kept) (kept_ink kept) measure chain new strokes.new.items) }
     ensures kept { OnErr result (strokes.new.items ≡ strokes.old.items) }
 {
     match opening {
-        Some(symbol) => Ok(Some(inked(symbol, ink, measure, chain)?)),
+        Some(symbol) => Ok(Some(inked(symbol, Ink::new(kept), measure, chain)?)),
         None => {
-            strokes.push(Stroke { place, ink })?;
+            strokes.push(Stroke::new(kept))?;
             Ok(None)
         }
     }

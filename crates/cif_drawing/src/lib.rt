@@ -6,6 +6,7 @@ mod drawing;
 mod expanding;
 mod flattening;
 mod ink;
+mod kept;
 mod laws;
 mod measure;
 mod measuring;

@@ -9,8 +9,8 @@ use std::marker::Model;
 /// A place in a text, in half the memory of a place in any input. Seen as the same place.
 #[derive(Drop)]
 pub struct TextPlace {
-    line: u32,
-    column: u32,
+    pub line: u32,
+    pub column: u32,
 }
 
 impl Model for TextPlace {
