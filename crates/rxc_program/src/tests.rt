@@ -1,6 +1,7 @@
 //! Runs of the program over memory: each row of the tables, and inputs that are cut or noise.
 use crate::extract_rows::EXTRACT_ROWS;
 use crate::pla_rows::PLA_ROWS;
+use crate::process_rows::PROCESS_ROWS;
 use crate::report_rows::{LARGE_REPORT_ROWS, REPORT_ROWS};
 use crate::rows::{FAILING, FRONTS, Failing, Input, ONE, Output, ROWS, Row, status_of};
 use crate::sim_rows::{REFUSED_SIM_ROWS, SIM_ROWS};
@@ -282,21 +283,24 @@ fn layouts_are_cut_off(rt: HostRuntime) -> Result<(), Fail> {
     Ok(())
 }
 
-/// At a refusal the process ends with 1 and one line on the standard error, of which a log that fails may lose the end.
+/// Each run ends the process with the number of its row and its line on the standard error, of which a log without room takes
+/// less or nothing.
 #[test]
-fn a_refusal_ends_the_process(rt: HostRuntime) -> Result<(), Fail> {
+fn runs_end_the_process(rt: HostRuntime) -> Result<(), Fail> {
     let alloc = rt.alloc();
-    for (room, line) in [
-        (100, b"rxc: S6 NoLines at 1:1\n".as_slice()),
-        (7, b"rxc: S6"),
-    ] {
-        let words = command_words(alloc, &[b"net"])?;
-        let mut src = MemSource::new(Vec::new(alloc), Vec::new(alloc));
-        let mut out = MemSink::new(alloc, 100, Vec::new(alloc), 100)?;
-        let mut log = MemSink::new(alloc, room, Vec::new(alloc), 100)?;
-        let code = exit_code(alloc, words.as_slice(), &mut src, &mut out, &mut log);
-        assert_eq!(rt; code, ExitCode::from(1));
-        assert_eq!(rt; log.held(), line);
+    for (number, row) in PROCESS_ROWS.iter().enumerate() {
+        let text = bytes_of(alloc, &row.input)?;
+        for room in [100, 7, 0] {
+            let words = command_words(alloc, row.words)?;
+            let mut src = MemSource::new(text.to_vec(alloc)?, vec![in alloc; row.read]?);
+            let mut out = MemSink::new(alloc, 1000, vec![in alloc; row.write]?, 16)?;
+            let mut log = MemSink::new(alloc, room, Vec::new(alloc), 100)?;
+            let code = exit_code(alloc, words.as_slice(), &mut src, &mut out, &mut log);
+            assert_eq!(rt; code, ExitCode::from(row.exit), "row {number}");
+            assert_eq!(rt; out.held().len(), row.written, "row {number}");
+            assert!(rt; row.line.starts_with(log.held()), "row {number}");
+            assert_eq!(rt; log.held().len(), row.line.len().min(room), "row {number}");
+        }
     }
     Ok(())
 }
