@@ -2,13 +2,14 @@
 use crate::extract_rows::EXTRACT_ROWS;
 use crate::pla_rows::PLA_ROWS;
 use crate::process_rows::PROCESS_ROWS;
-use crate::report_rows::{LARGE_REPORT_ROWS, REPORT_ROWS};
+use crate::report_rows::{DRAWN_SIDES, LARGE_REPORT_ROWS, REPORT_ROWS};
 use crate::rows::{FAILING, FRONTS, Failing, Input, ONE, Output, ROWS, Row, status_of};
 use crate::sim_rows::{REFUSED_SIM_ROWS, SIM_ROWS};
 use crate::status::Status;
 use crate::tree_rows::TREE_ROWS;
 use crate::words::RxWord;
 use crate::{exit_code, rxc};
+use cif_read::{flatten, read_cif};
 use rx_io::{MemSink, MemSource};
 use std::alloc::Global;
 use std::process::{Abort, ExitCode};
@@ -160,6 +161,37 @@ fn reports_come_out(rt: HostRuntime) -> Result<(), Fail> {
 #[test]
 fn large_reports_come_out(rt: HostRuntime) -> Result<(), Fail> {
     rows_come_out(&rt, rt.alloc(), LARGE_REPORT_ROWS)
+}
+
+/// The width and the height in lambda of the box of whole tiles round all that the text draws.
+fn drawn_sides(alloc: Global, text: &[u8]) -> Option<(i64, i64)> {
+    let drawing = read_cif(alloc, text).ok()?;
+    let boxes = flatten(alloc, &drawing).ok()?.boxes;
+    let (mut west, mut south) = (i64::MAX, i64::MAX);
+    let (mut east, mut north) = (i64::MIN, i64::MIN);
+    for b in boxes.as_slice() {
+        (west, south) = (west.min(b.x1), south.min(b.y1));
+        (east, north) = (east.max(b.x2), north.max(b.y2));
+    }
+    let width = tiles_up_to(east).wrapping_add(tiles_up_to(west.wrapping_neg()));
+    let height = tiles_up_to(north).wrapping_add(tiles_up_to(south.wrapping_neg()));
+    Some((width.wrapping_mul(14), height.wrapping_mul(14)))
+}
+
+/// So many whole tiles, of 14 lambda, reach up to the edge.
+fn tiles_up_to(edge: i64) -> i64 {
+    edge.wrapping_add(13).div_euclid(14)
+}
+
+/// The sides that `report` tells are those of the box of what `tree` draws.
+#[test]
+fn reported_sides_are_drawn(rt: HostRuntime) -> Result<(), Fail> {
+    let alloc = rt.alloc();
+    for (specification, width, height) in DRAWN_SIDES {
+        let layout = run_on(alloc, &[b"tree"], specification, NO_FAULTS)?;
+        assert_eq!(rt; drawn_sides(alloc, &layout.out), Some((*width, *height)));
+    }
+    Ok(())
 }
 
 /// The run is refused, and writes nothing.
