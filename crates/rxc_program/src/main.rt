@@ -37,6 +37,8 @@ mod extract_rows;
 #[cfg(test)]
 mod pla_rows;
 #[cfg(test)]
+mod process_rows;
+#[cfg(test)]
 mod report_rows;
 #[cfg(test)]
 mod rows;

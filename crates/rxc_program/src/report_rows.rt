@@ -46,6 +46,9 @@ const DEMO_2000_REPORT: &[u8] =
     tree side bound 1907080\ntree width 672658\ntree height 931350\ntree area 626480028300\n\
     tree area bound 46242201600000\n";
 
+/// Specifications, and the width and the height that their reports above tell.
+pub(crate) const DRAWN_SIDES: &[(&[u8], i64, i64)] = &[(ONE, 3780, 1498), (TWO, 12614, 12586)];
+
 /// Runs of `report` and of `demo`.
 pub(crate) const REPORT_ROWS: &[Row] = &[
     Row {
