@@ -183,13 +183,18 @@ fn tiles_up_to(edge: i64) -> i64 {
     edge.wrapping_add(13).div_euclid(14)
 }
 
-/// The sides that `report` tells are those of the box of what `tree` draws.
+/// The box of what a command draws has the sides of its row.
 #[test]
-fn reported_sides_are_drawn(rt: HostRuntime) -> Result<(), Fail> {
+fn drawn_sides_come_out(rt: HostRuntime) -> Result<(), Fail> {
     let alloc = rt.alloc();
-    for (specification, width, height) in DRAWN_SIDES {
-        let layout = run_on(alloc, &[b"tree"], specification, NO_FAULTS)?;
-        assert_eq!(rt; drawn_sides(alloc, &layout.out), Some((*width, *height)));
+    for (number, row) in DRAWN_SIDES.iter().enumerate() {
+        let text = bytes_of(alloc, &row.input)?;
+        let layout = run_on(alloc, &[row.word], &text, NO_FAULTS)?;
+        let sides = drawn_sides(alloc, &layout.out);
+        assert!(rt; sides.is_some(), "row {number}");
+        let (width, height) = sides.unwrap_or((0, 0));
+        assert!(rt; row.least.0 <= width && width <= row.greatest.0, "width of row {number}");
+        assert!(rt; row.least.1 <= height && height <= row.greatest.1, "height of row {number}");
     }
     Ok(())
 }
