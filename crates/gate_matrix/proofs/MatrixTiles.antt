@@ -10,7 +10,7 @@ use Rattle.gate_matrix.specs.Rows.{MatrixRow, blank_row}
 use Rattle.gate_matrix.specs.Columns.{column_of}
 use Rattle.gate_matrix.specs.Cells.{cell, matrix_tile}
 
-pub column_read : (at : List ℕ) (columns : List Column) (n col : ℕ) (k : Column) → columns ≡ map (column_of at) (range_with_len 0 n) → col < n
+column_read : (at : List ℕ) (columns : List Column) (n col : ℕ) (k : Column) → columns ≡ map (column_of at) (range_with_len 0 n) → col < n
     → k ≡ get_or columns col k → k ≡ column_of at col
 column_read at columns n col k are below read =
     read ∙ ap (λ l. get_or l col k) are ∙ get_or-map-range_with_len (column_of at) 0 n col col k below (omega arith)

@@ -1,8 +1,8 @@
 -- The tile is made of the row and the column that were read.
 use Rattle.std.proofs.Common.{◌<◌, length, sym, ap, subst, ◌∙◌}
 use Rattle.gate_matrix.specs.Cells.{Matrix, matrix_tile}
-use Rattle.pla_plan.proofs.MatrixTiles.{tile_read}
-use Rattle.pla_plan.proofs.matrix.Matrix.tile.Goals as goal
+use Rattle.gate_matrix.proofs.MatrixTiles.{tile_read}
+use Rattle.gate_matrix.proofs.matrix.Matrix.tile.Goals as goal
 
 pub returns : goal.returns
 returns c =

@@ -3,7 +3,7 @@ use Rattle.std.proofs.Common.{◌≡◌, ℕ, length, map, sym, ap, ◌∙◌}
 use Rattle.std.specs.List.{range_with_len}
 use Rattle.std.proofs.lemmas.List.FromFn.{length-map-range_with_len}
 use Rattle.gate_matrix.specs.Columns.{column_of}
-use Rattle.pla_plan.proofs.matrix.Matrix.new.Goals as goal
+use Rattle.gate_matrix.proofs.matrix.Matrix.new.Goals as goal
 
 pub invariant_of-result : goal.invariant_of-result
 invariant_of-result c =

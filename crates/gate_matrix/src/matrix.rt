@@ -1,19 +1,20 @@
 // The tiles of a gate matrix.
 
-ghost use Rattle.std.specs.Prelude.{◌≡◌, ◌<◌, length, IfOk};
+ghost use Rattle.std.specs.Prelude.{◌≡◌, ◌<◌, ◌≤◌, ◌^◌, length, IfOk};
 ghost use Rattle.gate_matrix.specs.Columns.{AreWires};
 ghost use Rattle.gate_matrix.specs.Cells.{matrix_tile};
 
-use gate_matrix::column::columns_of;
-use gate_matrix::{Column, Row, cell};
+use crate::column::{Column, columns_of};
+use crate::row::{Row, cell};
 use micro_tiles::Tile;
 use rx_text::NoMemory;
 use std::alloc::Global;
 use std::marker::Model;
 
-/// Rows and columns of a gate matrix, and the columns of the poly of its nets.
+/// Rows and columns of a gate matrix, and the columns of the poly of its nets. Its tiles are made one by one, so that a layout that
+/// is larger than a grid may be drawn row by row.
 #[derive(Drop)]
-pub(crate) struct Matrix {
+pub struct Matrix {
     rows: Vec<Row>,
     at: Vec<u32>,
     columns: Vec<Column>,
@@ -40,6 +41,14 @@ impl Matrix {
     {
         let columns = columns_of(alloc, &at, cols)?;
         Ok(Matrix { rows, at, columns })
+    }
+
+    /// How many nets have poly in it.
+    pub fn nets(&self) -> u32
+        requires { length self.now.at ≤ 2 ^ 16 }
+        ensures { result ≡ length self.now.at }
+    {
+        self.at.len() as u32
     }
 
     /// The tile in this row and column.
