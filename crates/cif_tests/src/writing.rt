@@ -1,8 +1,8 @@
 //! CIF texts that chips are written as.
 
-use crate::shapes::shapes;
 use cif_write::write_cif;
 use geom::{Call, Chip, Kind};
+use layout_words::shapes;
 use rx_io::MemSink;
 use std::alloc::Global;
 use std::test::Fail;

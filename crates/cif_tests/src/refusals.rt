@@ -1,6 +1,6 @@
 //! CIF texts that are refused, and the code and the place of each refusal.
 
-use crate::cif_reading::outcome;
+use crate::reading::outcome;
 use std::alloc::Global;
 use std::process::Abort;
 use std::test::Fail;
@@ -375,7 +375,7 @@ fn repeated(
 
 /// Texts by a piece that is repeated, and what becomes of them.
 const REPEATED: &[(&str, &str, usize, &str, &str)] = &[
-    ("", "(", 100_000, "", "C10 1:100001"),
+    ("", "(", 1_000_000, "", "C10 1:1000001"),
     ("(", "()", 100_000, ");E", ""),
     ("", ";", 100_000, "E", ""),
     ("", ";\n", 1000, "X", "C1 1001:1"),
@@ -412,45 +412,54 @@ fn reads_repeated_pieces(rt: HostRuntime) -> Result<(), Fail> {
     Ok(())
 }
 
-/// A text with a command of each kind, in one line.
-const WHOLE: &str =
-    "DS 1 2 1;L NM;B 400 800 200 400 0 1;DF;C 1 M X R 0 1 T 2800 0;L NP;P 0 0 200 0 200 200 0 200;W 200 100 100;94 VDD 0 0 NM;(c);;E";
+/// Texts of one line: one with a command of each kind, and a transistor between the supplies.
+const WHOLE: [&str; 2] = [
+    "DS 1 2 1;L NM;B 400 800 200 400 0 1;DF;C 1 M X R 0 1 T 2800 0;L NP;P 0 0 200 0 200 200 0 200;W 200 100 100;94 VDD 0 0 NM;(c);;E",
+    "L ND; B 800 4000 400 2000; L NP; B 1600 400 400 2000; 94 GND 0 0 ND; 94 VDD 0 3800 ND; 94 IN:x 1000 1800 NP; \
+        L NM; B 800 800 4400 400; 94 PHI1 4000 0 NM; B 800 800 6400 400; 94 PHI2 6000 0 NM; B 800 800 8400 400; 94 RESET 8000 0 NM; E",
+];
 
-#[test]
-fn fronts_have_no_end(rt: HostRuntime) -> Result<(), Fail> {
-    let bytes = WHOLE.as_bytes();
-    for count in 0..bytes.len() {
-        let found = outcome(rt.alloc(), &bytes[..count])?;
-        let wanted = format!(in rt.alloc(); "C10 1:{}", count + 1)?;
+/// Each front of the text is refused at its end.
+fn fronts_are_refused(rt: &impl Abort, alloc: Global, text: &[u8]) -> Result<(), Fail> {
+    for count in 0..text.len() {
+        let found = outcome(alloc, &text[..count])?;
+        let wanted = format!(in alloc; "C10 1:{}", count + 1)?;
         assert_eq!(rt; found.as_str(), wanted.as_str());
     }
     Ok(())
 }
 
-/// Definitions of which each calls the one before, and a call in the last line.
-fn chain(alloc: Global, inner: &str, links: usize) -> Result<String, Fail> {
-    let mut text = format!(in alloc; "DS 1; L NM; {inner} DF;")?;
+#[test]
+fn fronts_have_no_end(rt: HostRuntime) -> Result<(), Fail> {
+    for text in WHOLE {
+        fronts_are_refused(&rt, rt.alloc(), text.as_bytes())?;
+    }
+    Ok(())
+}
+
+/// Definitions of which each calls the one before, and what stands in the lines behind them.
+fn chain(alloc: Global, inner: &str, links: usize, last: &str) -> Result<String, Fail> {
+    let mut text = format!(in alloc; "DS 1; L NM; {inner} DF;\n")?;
     for k in 1..links {
-        let line = format!(in alloc; "\nDS {}; C {k}; DF;", k + 1)?;
+        let line = format!(in alloc; "DS {}; C {k}; DF;\n", k + 1)?;
         text.push_str(line.as_str())?;
     }
-    let end = format!(in alloc; "\nC {links};\nE")?;
-    text.push_str(end.as_str())?;
+    text.push_str(last)?;
     Ok(text)
 }
 
-/// What stands in the first definition, how many definitions there are, and what becomes of the text.
-const CHAINS: &[(&str, usize, &str)] = &[
-    ("B 800 800 400 400;", 64, "M 0 0 4 4"),
-    ("B 800 800 400 400;", 65, "C14 66:1"),
-    ("B 800 800 400 400;", 66, "C14 66:8"),
-    ("", 70, ""),
+/// What stands in the first definition, how many definitions there are, what stands behind them, and what becomes of the text.
+const CHAINS: &[(&str, usize, &str, &str)] = &[
+    ("B 800 800 400 400;", 64, "C 64;\nE", "M 0 0 4 4"),
+    ("B 800 800 400 400;", 65, "C 65;\nE", "C14 66:1"),
+    ("B 800 800 400 400;", 66, "E", "C14 66:8"),
+    ("", 70, "C 70;\nE", ""),
 ];
 
 #[test]
 fn follows_chains(rt: HostRuntime) -> Result<(), Fail> {
-    for (inner, links, wanted) in CHAINS {
-        let text = chain(rt.alloc(), inner, *links)?;
+    for (inner, links, last, wanted) in CHAINS {
+        let text = chain(rt.alloc(), inner, *links, last)?;
         let found = outcome(rt.alloc(), text.as_bytes())?;
         assert_eq!(rt; found.as_str(), *wanted, "{links}");
     }
@@ -459,7 +468,7 @@ fn follows_chains(rt: HostRuntime) -> Result<(), Fail> {
 
 /// Definitions of which each calls the one before ten times, and a call in the last line.
 fn tenfold(alloc: Global, links: usize) -> Result<String, Fail> {
-    let mut text = format!(in alloc; "DS 1; L NM; B 800 800 400 400; DF;")?;
+    let mut text = format!(in alloc; "DS 1 100 1; L NM; B 8 8 4 4; DF;")?;
     for k in 1..links {
         let call = format!(in alloc; " C {k};")?;
         let first = format!(in alloc; "\nDS {};", k + 1)?;

@@ -48,8 +48,13 @@ fn device_text(alloc: Global, network: &Network, device: Device) -> Result<Strin
     }
 }
 
-/// The number of nets, the names of the inputs and outputs, and the devices by the names of their nets.
-pub(crate) fn network_text(alloc: Global, network: &Network) -> Result<String, Fail> {
+/// The number of nets, the names of the inputs and outputs, and the devices by the names of their nets, in the order of their texts:
+/// `6 nets, IN:x, pass IN:x VDD GND`. A net without a pad is `-`.
+///
+/// # Errors
+///
+/// A failed test where memory was refused.
+pub fn network_text(alloc: Global, network: &Network) -> Result<String, Fail> {
     let mut text = format!(in alloc; "{} nets", network.nets())?;
     for pad in network.pads() {
         if pad.name.name.is_some() {
@@ -68,8 +73,12 @@ pub(crate) fn network_text(alloc: Global, network: &Network) -> Result<String, F
     Ok(text)
 }
 
-/// The code and the place of a refusal.
-pub(crate) fn fault_text(alloc: Global, fault: PlainFault) -> Result<String, Fail> {
+/// The code of a refusal, and its square where it stands on one: `X4@80,80`.
+///
+/// # Errors
+///
+/// A failed test where the extractor ran out of memory, and where memory was refused.
+pub fn fault_text(alloc: Global, fault: PlainFault) -> Result<String, Fail> {
     match fault {
         PlainFault::TooWide => Ok("too wide".to_string(alloc)?),
         PlainFault::Fault(

@@ -1,7 +1,7 @@
 //! CIF texts, and what they draw.
 
-use crate::shapes::{shapes, text_of};
 use cif_read::{CifFault, Drawing, ReadCifFault, flatten, read_cif};
+use layout_words::{shapes, text_of};
 use rx_text::Place;
 use std::alloc::Global;
 use std::process::Abort;
@@ -29,6 +29,7 @@ const BOXES: &[(&str, &str)] = &[
     ("L NM;B800 800 400,-400;E", "M 0 -4 4 0"),
     ("L NM;B 400 400 -0 0; E", "M -1 -1 1 1"),
     ("L NM; B 200 400 100 200;E", "M 0 0 1 2"),
+    ("L NM; B 800 800 400 400;E nd", "M 0 0 4 4"),
     ("LNM;b 800 says more;B800+800,400.400;E", "M 0 0 4 4"),
     (
         "L ND;B 200 200 100 100;L NP;B 200 200 100 100;L NM;B 200 200 100 100;L NC;B 200 200 100 100;L NI;B 200 200 100 100;E",
@@ -220,6 +221,21 @@ fn draws_boxes(rt: HostRuntime) -> Result<(), Fail> {
 fn draws_calls(rt: HostRuntime) -> Result<(), Fail> {
     for (text, wanted) in CALLS {
         draws(&rt, rt.alloc(), text, wanted)?;
+    }
+    Ok(())
+}
+
+/// Every byte parts numbers but digits, capital letters, a sign, parentheses and a semicolon.
+#[test]
+fn other_bytes_are_blanks(rt: HostRuntime) -> Result<(), Fail> {
+    for byte in 0..=255u8 {
+        let speaks = byte.is_ascii_digit() || byte.is_ascii_uppercase() || b"-();".contains(&byte);
+        if !speaks {
+            let mut text = b"L NM;B 800 800 400".to_vec(rt.alloc())?;
+            text.push(byte)?;
+            text.extend_from_slice(b"400;E")?;
+            assert_eq!(rt; outcome(rt.alloc(), &text)?.as_str(), "M 0 0 4 4", "{byte}");
+        }
     }
     Ok(())
 }
