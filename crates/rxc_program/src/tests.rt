@@ -193,8 +193,14 @@ fn drawn_sides_come_out(rt: HostRuntime) -> Result<(), Fail> {
         let sides = drawn_sides(alloc, &layout.out);
         assert!(rt; sides.is_some(), "row {number}");
         let (width, height) = sides.unwrap_or((0, 0));
-        assert!(rt; row.least.0 <= width && width <= row.greatest.0, "width of row {number}");
-        assert!(rt; row.least.1 <= height && height <= row.greatest.1, "height of row {number}");
+        assert!(rt;
+            row.least.0 <= width && width <= row.greatest.0,
+            "width of row {number}"
+        );
+        assert!(rt;
+            row.least.1 <= height && height <= row.greatest.1,
+            "height of row {number}"
+        );
     }
     Ok(())
 }
