@@ -308,6 +308,18 @@ pub(crate) const LARGE_REPORT_ROWS: &[Row] = &[
         output: Output::Is(MANY_REPORT),
         log: b"",
     },
+    // The greatest array.
+    Row {
+        words: &[b"report"],
+        input: Input::Repeated(SYMBOLS, b" a", 256, b" !z;"),
+        end: End::Done,
+        output: Output::Holds(
+            b"leaves 256\n",
+            b"\nterms 257\npla rows 5421\npla columns 2596\npla area 2758291536\n",
+            b"\ntree area bound 832359628800\n",
+        ),
+        log: b"",
+    },
     Row {
         words: &[b"demo", b"1", b"200"],
         input: Input::Text(b""),
