@@ -27,6 +27,7 @@ use Rattle.pla_plan.specs.Filled.{FillsTiles}
 use Rattle.rxc_program.proofs.TileBoxes.{tiles_box, tiles_box_of}
 use Rattle.pla_plan.specs.Fits.{IsArray}
 use Rattle.position_nfa.specs.Registers.{array_counts, array_pads}
+use Rattle.rxc_program.proofs.ChipTexts.{chip_begins}
 use Rattle.rxc_program.proofs.ArrayLabels.{array_pads_named, labels_written}
 use Rattle.rxc_program.proofs.PlanSquares.{plan_lies}
 use Rattle.rxc_program.proofs.WrittenRows.{row_chip_written}
@@ -69,7 +70,10 @@ module _ (nfa : Automaton) (tables : Tables)
     array_file : IsFileOf pla_file (specification tables) (chip_text chip)
     array_file = record {
       circuit = shows.circuit;
-      stands = record { boxes = chip_boxes chip; labels = chip.labels; draws = texts.drawn chip writable; stands = stands };
+      stands = record {
+        begins = chip_begins chip;
+        draws = record { boxes = chip_boxes chip; labels = chip.labels; draws = texts.drawn chip writable; stands = stands };
+      };
       compiled = record { pads = shows.recogniser.pads; recognises = shows.recogniser.recognises; sure = shows.recogniser.sure };
       sides = record {
         terms = length (array_of nfa tables).terms;

@@ -36,6 +36,7 @@ use Rattle.tree_chip.specs.TreePlans.{tree_labels, tree_plan}
 use Rattle.rxc_program.specs.Files.{DrawsBox, HasTreeSides, IsFileOf, tree_file}
 use Rattle.rxc_program.specs.Measuring.{IsLayoutOf}
 use Rattle.report_text.specs.Sizes.{block_width, blocks, leaves, tree_area_bound, tree_side_bound, wires}
+use Rattle.rxc_program.proofs.ChipTexts.{chip_begins}
 use Rattle.rxc_program.proofs.BoxSides.{height_within, width_within}
 use Rattle.rxc_program.proofs.Levels.{few_lines}
 use Rattle.rxc_program.proofs.Members.{all_of}
@@ -221,7 +222,10 @@ module _ (sheet : Sheet) (tree : TreeTable) (tables : Tables) (spec_is : IsSpeci
     tree_file_of : IsFileOf tree_file (specification tables) (chip_text chip)
     tree_file_of = record {
       circuit = shows.circuit;
-      stands = record { boxes = chip_boxes chip; labels = chip.labels; draws = texts.drawn chip writable; stands = stands };
+      stands = record {
+        begins = chip_begins chip;
+        draws = record { boxes = chip_boxes chip; labels = chip.labels; draws = texts.drawn chip writable; stands = stands };
+      };
       compiled = record { pads = shows.recogniser.pads; recognises = shows.recogniser.recognises; sure = shows.recogniser.sure };
       sides = sides_of box.0 box.1;
       rules = record { boxes = chip_boxes chip; labels = chip.labels; draws = texts.drawn chip writable; keeps = keeps };

@@ -1,5 +1,5 @@
 -- Files of networks that recognise the languages of a specification.
-use Rattle.std.specs.Prelude.{◌≡◌, ⊤, ℕ, ◌*◌, ◌≤◌, List, length}
+use Rattle.std.specs.Prelude.{◌≡◌, ⊤, ℕ, ◌*◌, ◌≤◌, false, List, length}
 use Rattle.geom.specs.declared.chip.Label.{Label}
 use Rattle.geom.specs.declared.chip.Rect.{Rect}
 use Rattle.geom.specs.Squares.{BoxShape, Covered}
@@ -14,6 +14,7 @@ use Rattle.net_text.specs.NetworkText.{IsNetworkText}
 use Rattle.tile_rules.specs.KeptRules.{KeepsRules}
 use Rattle.layout_network.specs.Layouts.{DrawsNetwork}
 use Rattle.report_text.specs.Sizes.{blocks, tree_area_bound, tree_side_bound}
+use Rattle.rxc_program.specs.Chips.{begins_network}
 
 -- the kinds of files that are written for a specification
 pub data FileKind : Type 0 where
@@ -29,11 +30,16 @@ most_leaves tree_file = 4096
 
 -- ---- what a file stands for
 
+-- The file does not begin as a network text does, and is a CIF text whose squares stand for this circuit.
+pub record IsLayoutFile (file : List ℕ) (circuit : Circuit) : Type 0 where
+  pub begins : begins_network file ≡ false
+  pub draws : DrawsNetwork file circuit
+
 -- The file is of this kind, and stands for this circuit.
 abbrev pub FileStandsFor : FileKind → List ℕ → Circuit → Type 0
 FileStandsFor network_file file circuit = IsNetworkText file circuit
-FileStandsFor pla_file file circuit = DrawsNetwork file circuit
-FileStandsFor tree_file file circuit = DrawsNetwork file circuit
+FileStandsFor pla_file file circuit = IsLayoutFile file circuit
+FileStandsFor tree_file file circuit = IsLayoutFile file circuit
 
 -- A network of the specification: it has the pads of the specification, and from all charges each output is high after t
 -- clocks exactly where the first t input vectors lie in its language; so also in a ternary run, in which no output is unknown.

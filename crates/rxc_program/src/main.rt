@@ -43,6 +43,8 @@ mod report_rows;
 #[cfg(test)]
 mod rows;
 #[cfg(test)]
+mod sim_layout_rows;
+#[cfg(test)]
 mod sim_rows;
 #[cfg(test)]
 mod tests;

@@ -4,6 +4,7 @@ use crate::pla_rows::PLA_ROWS;
 use crate::process_rows::PROCESS_ROWS;
 use crate::report_rows::{DRAWN_SIDES, LARGE_REPORT_ROWS, REPORT_ROWS};
 use crate::rows::{FAILING, FRONTS, Failing, Input, ONE, Output, ROWS, Row, status_of};
+use crate::sim_layout_rows::SIM_LAYOUT_ROWS;
 use crate::sim_rows::{REFUSED_SIM_ROWS, SIM_ROWS};
 use crate::status::Status;
 use crate::tree_rows::TREE_ROWS;
@@ -83,9 +84,9 @@ fn bytes_of(alloc: Global, input: &Input) -> Result<Vec<u8>, Fail> {
             put_repeated(&mut text, piece, *times)?;
             text.extend_from_slice(rest)?;
         }
-        Input::Compiled(trace, specification) => {
+        Input::Compiled(word, trace, specification) => {
             text.extend_from_slice(trace)?;
-            let compiled = run_on(alloc, &[b"net"], specification, NO_FAULTS)?;
+            let compiled = run_on(alloc, &[word], specification, NO_FAULTS)?;
             text.extend_from_slice(&compiled.out)?;
         }
     }
@@ -136,6 +137,11 @@ fn simulations_come_out(rt: HostRuntime) -> Result<(), Fail> {
 #[test]
 fn refused_simulations_come_out(rt: HostRuntime) -> Result<(), Fail> {
     rows_come_out(&rt, rt.alloc(), REFUSED_SIM_ROWS)
+}
+
+#[test]
+fn simulations_of_layouts_come_out(rt: HostRuntime) -> Result<(), Fail> {
+    rows_come_out(&rt, rt.alloc(), SIM_LAYOUT_ROWS)
 }
 
 #[test]
