@@ -9,13 +9,14 @@ ghost use Rattle.rxc_program.specs.Serving.{AnswersText, StopsBy, TakesLines};
 ghost use Rattle.rxc_program.specs.Simulating.{BreaksBehind, BreaksDriven, BreaksTrace, IsChip, IsDrivenBy, lower, simulating};
 
 use crate::input::read_input;
+use crate::plain_run::run_plain;
 use crate::status::{Code, Status};
 use net_text::{ReadNetFault, read_net, refusals_stand_in_the_text};
 use rx_io::{Sink, Source};
 use rx_text::Place;
 use std::alloc::Global;
 use switch_net::Network;
-use switch_sim::{ReadTraceFault, RunFault, Trace, read_trace, run_trace};
+use switch_sim::{ReadTraceFault, RunFault, Trace, read_trace};
 
 /// Reads a trace and a chip, runs the chip through the trace, and writes a line after each clock.
 pub(crate) fn sim<S: Source, O: Sink>(alloc: Global, src: &mut S, out: &mut O) -> Status
@@ -106,7 +107,7 @@ fn run_through<O: Sink>(alloc: Global, network: &Network, trace: &Trace, out: &m
     ensures taken { TakesLines (change O.held O.faults out.old out.new) network.now trace.now result }
     ensures count { O.faults out.old ≤ O.faults out.new }
 {
-    match run_trace(alloc, network, trace, out) {
+    match run_plain(alloc, network, trace, out) {
         Ok(()) => Status::Done,
         Err(RunFault::WrongWidth { vector }) => Status::Refused {
             code: Code::V2,
