@@ -1,7 +1,6 @@
 //! Small drawings, and the networks that their squares stand for, or their refusals.
 
-use crate::circuits::{fault_text, network_text};
-use crate::shapes::shapes;
+use layout_words::{fault_text, network_text, shapes};
 use nmos_model::extract_plain;
 use std::alloc::Global;
 use std::test::Fail;

@@ -1,7 +1,7 @@
 //! Turned, moved and merged boxes that are known from outside.
 
-use crate::shapes::{shapes, text_of};
 use geom::{Box2, Layer, Orient, merge_runs, place};
+use layout_words::{shapes, text_of};
 use std::test::Fail;
 
 /// The eight ways to turn: whether the axes are exchanged, and whether x and y are negated then.

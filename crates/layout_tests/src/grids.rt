@@ -4,10 +4,9 @@ ghost use Rattle.std.specs.Prelude.{◌≡◌, is_some};
 ghost use Rattle.rx_text.specs.Role.{bears_name};
 ghost use Rattle.nmos_model.specs.Pads.{AreNamed};
 
-use crate::circuits::{fault_text, network_text};
 use crate::laid::laid;
-use crate::shapes::{shapes, text_of};
 use geom::{Box2, Label};
+use layout_words::{fault_text, network_text, shapes, text_of};
 use nmos_model::extract_plain;
 use nmos_model::laws::drawings_are_networks_or_refused;
 use rx_text::PadName;

@@ -1,16 +1,6 @@
-//! Tests of the crates of layouts: tables of boxes, tiles, drawings and grids, and what each comes to.
+//! Tests of the crates of boxes and tiles: tables of boxes, tiles, drawings and grids, and what each comes to.
 #![tactic(auto)]
 
-#[cfg(test)]
-mod cif_reading;
-#[cfg(test)]
-mod cif_refusals;
-#[cfg(test)]
-mod cif_sentences;
-#[cfg(test)]
-mod cif_texts;
-#[cfg(test)]
-mod circuits;
 #[cfg(test)]
 mod drawings;
 #[cfg(test)]
@@ -20,8 +10,6 @@ mod grids;
 #[cfg(test)]
 mod laid;
 #[cfg(test)]
-mod polygons;
-#[cfg(test)]
-mod shapes;
+mod sweeps;
 #[cfg(test)]
 mod tiles;

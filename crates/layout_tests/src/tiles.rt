@@ -1,7 +1,7 @@
 //! Tiles written out by hand.
 
-use crate::shapes::text_of;
 use geom::{Box2, Layer};
+use layout_words::text_of;
 use micro_tiles::{
     Mode, Side, TILES, Tile, box_at, box_count, channel_in, local_net, net_of_square, port,
     transistor_in, transposed,

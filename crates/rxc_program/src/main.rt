@@ -38,9 +38,13 @@ mod extract_rows;
 #[cfg(test)]
 mod pla_rows;
 #[cfg(test)]
+mod process_rows;
+#[cfg(test)]
 mod report_rows;
 #[cfg(test)]
 mod rows;
+#[cfg(test)]
+mod sim_layout_rows;
 #[cfg(test)]
 mod sim_rows;
 #[cfg(test)]

@@ -1,6 +1,0 @@
--- The next sentence begins within the text.
-use Rattle.std.proofs.Common.{◌≤◌, length}
-use Rattle.layout_tests.proofs.cif_sentences.first_fault.Given as goal
-
-abbrev pub invariant-loop : goal.invariant-loop
-invariant-loop l = l.from ≤ length l.text
