@@ -18,6 +18,7 @@ mod laws;
 mod log;
 mod net;
 mod pla;
+mod plain_run;
 mod report;
 mod sim;
 mod status;

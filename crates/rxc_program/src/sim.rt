@@ -12,6 +12,7 @@ ghost use Rattle.rxc_program.specs.Simulating.{BreaksBehind, BreaksDriven, Break
 
 use crate::extract::layout_of;
 use crate::input::read_input;
+use crate::plain_run::run_plain;
 use crate::status::{Code, Status};
 use layout_network::layout_refusals_stand_in_the_text;
 use net_text::{ReadNetFault, read_net, refusals_stand_in_the_text};
@@ -19,7 +20,7 @@ use rx_io::{Sink, Source};
 use rx_text::Place;
 use std::alloc::Global;
 use switch_net::Network;
-use switch_sim::{ReadTraceFault, RunFault, Trace, read_trace, run_trace};
+use switch_sim::{ReadTraceFault, RunFault, Trace, read_trace};
 
 /// How a network text begins.
 const NETWORK_FRONT: &[u8] = b"rxnet 1\n";
@@ -142,7 +143,7 @@ fn run_through<O: Sink>(alloc: Global, network: &Network, trace: &Trace, out: &m
     ensures taken { TakesLines (change O.held O.faults out.old out.new) network.now trace.now result }
     ensures count { O.faults out.old ≤ O.faults out.new }
 {
-    match run_trace(alloc, network, trace, out) {
+    match run_plain(alloc, network, trace, out) {
         Ok(()) => Status::Done,
         Err(RunFault::WrongWidth { vector }) => Status::Refused {
             code: Code::V2,
