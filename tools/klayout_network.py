@@ -8,7 +8,10 @@ import pya
 
 UNITS = 200
 layout = pya.Layout()
-layout.read(chip)
+options = pya.LoadLayoutOptions()
+# Coordinates have 32 bits there, so with the finest unit a layout may have at most a million lambda.
+options.cif_dbu = 0.1
+layout.read(chip, options)
 top = layout.top_cell()
 top.flatten(True)
 found = {layout.get_info(i).name: i for i in layout.layer_indexes()}

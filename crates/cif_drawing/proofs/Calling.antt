@@ -1,30 +1,27 @@
 -- Calls, and definitions that are closed.
-use Rattle.std.proofs.Common.{◌≡◌, ◌≢◌, ℕ, zero, suc, Bool, ◌+◌, ◌^◌, ◌<◌, ◌≤◌, ◌==◌, cond, max, List, [], ◌∷◌, ◌++◌, length, get_or, map, reverse, fold, Option, Some, None, inl, inr, refl, sym, ◌∙◌, ap, subst, arith}
-use Rattle.std.specs.List.{flat_map}
+use Rattle.std.proofs.Common.{◌≡◌, ◌≢◌, ℕ, Bool, ◌+◌, ◌^◌, ◌<◌, ◌≤◌, ◌==◌, cond, max, List, [], ◌∷◌, ◌++◌, length, get_or, map, reverse, fold, Option, Some, None, inl, refl, sym, ◌∙◌, ap, subst, arith}
 use Rattle.std.proofs.lemmas.List.{reverse-append}
 use Rattle.std.proofs.lemmas.Bool.{ne_eqb}
 use Rattle.rx_text.specs.declared.place.Place.{Place}
 use Rattle.geom.specs.declared.chip.Label.{Label}
 use Rattle.geom.specs.Squares.{BoxShape}
 use Rattle.geom.specs.Rows.{Among}
-use Rattle.geom.specs.CifDrawings.{CifSymbol, CifStroke, CifDrawing, chain_if_drawn, stroke_of}
-use Rattle.cif_drawing.specs.declared.ink.Call.{Call}
-use Rattle.cif_drawing.specs.declared.ink.Ink.{Ink}
-use Rattle.cif_drawing.specs.declared.ink.Ink.TheVariants.{Called}
+use Rattle.geom.specs.CifDrawings.{CifSymbol, CifStroke, chain_if_drawn}
+use Rattle.cif_drawing.specs.declared.kept.Call.{Call}
+use Rattle.cif_drawing.specs.Shapes.{InkShape, StrokeShape, Called}
 use Rattle.cif_drawing.specs.declared.ink.Symbol.{Symbol}
-use Rattle.cif_drawing.specs.declared.ink.Stroke.{Stroke}
 use Rattle.cif_drawing.specs.declared.placement.Placement.{Placement}
 use Rattle.cif_drawing.specs.declared.placement.Step.{Step}
 use Rattle.cif_drawing.specs.declared.measure.Measure.{Measure}
 use Rattle.cif_drawing.specs.Placements.{IsOrdered, placed, IsNear, step_box, stepped_boxes}
 use Rattle.cif_drawing.specs.Measures.{IsMeasure}
-use Rattle.cif_drawing.specs.Inks.{symbol_at, ink_boxes, ink_chain, inks_boxes, cif_symbol, with_symbol, closed_symbols, cif_stroke, strokes_of, drawing_of, IsCall, IsInk, IsInkOf, IsSymbol, AreSymbols, AreStrokes}
+use Rattle.cif_drawing.specs.Inks.{symbol_at, ink_boxes, ink_chain, inks_boxes, cif_symbol, with_symbol, closed_symbols, cif_stroke, strokes_of, drawing_of, IsCall, IsInk, AreSymbols, AreStrokes}
 use Rattle.cif_drawing.specs.Numbers.{IsIndex, IsIndexOf}
-use Rattle.cif_drawing.specs.Parts.{DrawingParts, part_boxes, part_chain, chain_or_none, drawn_parts, drawn_symbol, closed_parts}
+use Rattle.cif_drawing.specs.Parts.{DrawingParts, part_boxes, part_chain, chain_or_none, drawn_parts, closed_parts}
 use Rattle.cif_drawing.specs.Building.{parts_of, open_symbol, IsBuilding, IsAdded}
 use Rattle.cif_drawing.proofs.Lists.{append_nil, map_alike, no_append}
 use Rattle.cif_drawing.proofs.Measured.{measure_ordered}
-use Rattle.cif_drawing.proofs.Standing.{StandsAt, symbol_stands, one_more, symbols_more, ink_stays, ink_of_still, length_closed}
+use Rattle.cif_drawing.proofs.Standing.{StandsAt, one_more, symbols_more, ink_stays, ink_of_still, length_closed}
 use Rattle.cif_drawing.proofs.Expanded.{index_stands}
 use Rattle.cif_drawing.proofs.Numbers.{found, index_found, none_found}
 use Rattle.cif_drawing.proofs.Inking.{IsNewInk, ink_draws, Draws, added_draws}
@@ -38,11 +35,11 @@ some_boxes : (boxes : List BoxShape) (n : ℕ) → boxes ≢ [] → chain_if_dra
 some_boxes [] n h = absurd (h refl)
 some_boxes (b ∷ bs) n h = refl
 
-inks_draw : (closed : List CifSymbol) (inks : List Ink) → ((i : Ink) → Among inks i → IsInk closed i) → inks ≢ [] → inks_boxes closed inks ≢ []
+inks_draw : (closed : List CifSymbol) (inks : List InkShape) → ((i : InkShape) → Among inks i → IsInk closed i) → inks ≢ [] → inks_boxes closed inks ≢ []
 inks_draw closed [] h some = absurd (some refl)
 inks_draw closed (i ∷ is) h some = no_append (ink_boxes closed i) (inks_boxes closed is) (ink_draws closed i (h i (inl refl)))
 
-chain_by : (closed : List CifSymbol) (inks : List Ink) (n : ℕ) → ((i : Ink) → Among inks i → IsInk closed i)
+chain_by : (closed : List CifSymbol) (inks : List InkShape) (n : ℕ) → ((i : InkShape) → Among inks i → IsInk closed i)
     → chain_if_drawn (inks_boxes closed inks) n ≡ cond (length inks == 0) 0 (n + 1)
 chain_by closed [] n h = refl
 chain_by closed (i ∷ is) n h =
@@ -110,7 +107,7 @@ drawn_nothing parts place boxes chain o e f g =
 
 -- ---- a definition that is closed
 
-strokes_stay : (symbols : List Symbol) (s : Symbol) (strokes : List Stroke) → AreStrokes (closed_symbols symbols) strokes
+strokes_stay : (symbols : List Symbol) (s : Symbol) (strokes : List StrokeShape) → AreStrokes (closed_symbols symbols) strokes
     → strokes_of (symbols ++ s ∷ []) strokes ≡ strokes_of symbols strokes
 strokes_stay symbols s strokes h =
     let closed : List CifSymbol = closed_symbols symbols in
@@ -118,7 +115,7 @@ strokes_stay symbols s strokes h =
     ∙ map_alike (cif_stroke (with_symbol closed s)) (cif_stroke closed) strokes
     (λ stroke i. ap (λ (l : List BoxShape). record { place = stroke.place; boxes = l }) (ink_stays closed (cif_symbol closed s ∷ []) stroke.ink (h stroke i).ink))
 
-pub closed_holds : (symbols : List Symbol) (s : Symbol) (strokes : List Stroke) → IsBuilding symbols (Some s) strokes → IsBuilding (symbols ++ s ∷ []) None strokes
+pub closed_holds : (symbols : List Symbol) (s : Symbol) (strokes : List StrokeShape) → IsBuilding symbols (Some s) strokes → IsBuilding (symbols ++ s ∷ []) None strokes
 closed_holds symbols s strokes h =
     let closed : List CifSymbol = closed_symbols symbols in
     let P : List CifSymbol → Type 0 = λ l. AreStrokes l strokes in
@@ -130,7 +127,7 @@ closed_holds symbols s strokes h =
       opening = tt;
     }
 
-pub closed_same : (symbols : List Symbol) (s : Symbol) (strokes : List Stroke) (labels : List Label) → IsBuilding symbols (Some s) strokes
+pub closed_same : (symbols : List Symbol) (s : Symbol) (strokes : List StrokeShape) (labels : List Label) → IsBuilding symbols (Some s) strokes
     → parts_of (symbols ++ s ∷ []) None strokes labels ≡ closed_parts (parts_of symbols (Some s) strokes labels) (open_symbol (closed_symbols symbols) (Some s))
 closed_same symbols s strokes labels h =
     let closed : List CifSymbol = closed_symbols symbols in
@@ -187,7 +184,7 @@ called_nothing parts place steps symbols number k s chain h none =
     subst P (sym (index_found symbols number k h.all h.index))
     (drawn_nothing parts place (stepped_boxes steps x.boxes) (chain_if_drawn x.boxes x.chain) parts.opening refl (ap (stepped_boxes steps) (nothing_of x.boxes x.chain e)) e)
 
-pub called_draws : (symbols : List Symbol) (opening opening' : Option Symbol) (strokes strokes' : List Stroke) (labels : List Label) (place : Place) (number k : ℕ) (s : Symbol)
+pub called_draws : (symbols : List Symbol) (opening opening' : Option Symbol) (strokes strokes' : List StrokeShape) (labels : List Label) (place : Place) (number k : ℕ) (s : Symbol)
     (p : Placement) (steps : List Step) (measure : Option Measure) (chain : ℕ) → IsBuilding symbols opening strokes → IsFound symbols number k s chain → chain ≢ 0
     → chain_or_none (found (reverse (closed_symbols symbols)) number) ≤ 64 → IsNear (2 ^ 103) p.by → ((b : BoxShape) → IsOrdered b → placed p b ≡ fold step_box b steps)
     → IsMeasure (ink_chain (closed_symbols symbols) (Called (record { symbol = k; placement = p }))) measure
@@ -209,7 +206,7 @@ called_draws symbols opening opening' strokes strokes' labels place number k s p
     let R : ℕ → Type 0 = λ n. Draws symbols opening strokes labels place (map (placed p) x.boxes) n opening' strokes' in
     subst P (sym f) (subst Q (stepped_same closed k s p steps (found_stands symbols number k s chain h) still) (subst R e d))
 
-pub closed_draws : (symbols symbols' : List Symbol) (opening opening' : Option Symbol) (s : Symbol) (strokes : List Stroke) (labels : List Label) → opening ≡ Some s
+pub closed_draws : (symbols symbols' : List Symbol) (opening opening' : Option Symbol) (s : Symbol) (strokes : List StrokeShape) (labels : List Label) → opening ≡ Some s
     → opening' ≡ None → symbols' ≡ symbols ++ s ∷ [] → IsBuilding symbols opening strokes
     → parts_of symbols' opening' strokes labels ≡ closed_parts (parts_of symbols opening strokes labels) (open_symbol (closed_symbols symbols) opening)
 closed_draws symbols symbols' opening opening' s strokes labels e f g h =
@@ -219,7 +216,7 @@ closed_draws symbols symbols' opening opening' s strokes labels e f g h =
     ap (λ (l : List Symbol). parts_of l opening' strokes labels) g
     ∙ (ap (λ (o : Option Symbol). parts_of (symbols ++ s ∷ []) o strokes labels) f ∙ subst Q (sym e) (closed_same symbols s strokes labels (subst P e h)))
 
-pub closed_keeps : (symbols symbols' : List Symbol) (opening opening' : Option Symbol) (s : Symbol) (strokes : List Stroke) → opening ≡ Some s → opening' ≡ None
+pub closed_keeps : (symbols symbols' : List Symbol) (opening opening' : Option Symbol) (s : Symbol) (strokes : List StrokeShape) → opening ≡ Some s → opening' ≡ None
     → symbols' ≡ symbols ++ s ∷ [] → IsBuilding symbols opening strokes → IsBuilding symbols' opening' strokes
 closed_keeps symbols symbols' opening opening' s strokes e f g h =
     let P : Option Symbol → Type 0 = λ o. IsBuilding symbols o strokes in
@@ -227,7 +224,7 @@ closed_keeps symbols symbols' opening opening' s strokes e f g h =
     let R : List Symbol → Type 0 = λ l. IsBuilding l None strokes in
     subst Q (sym f) (subst R (sym g) (closed_holds symbols s strokes (subst P e h)))
 
-pub dropped_keeps : (symbols symbols' : List Symbol) (opening opening' : Option Symbol) (strokes : List Stroke) → opening' ≡ None → symbols' ≡ symbols
+pub dropped_keeps : (symbols symbols' : List Symbol) (opening opening' : Option Symbol) (strokes : List StrokeShape) → opening' ≡ None → symbols' ≡ symbols
     → IsBuilding symbols opening strokes → IsBuilding symbols' opening' strokes
 dropped_keeps symbols symbols' opening opening' strokes f g h =
     let Q : Option Symbol → Type 0 = λ o. IsBuilding symbols' o strokes in

@@ -1,7 +1,6 @@
 -- One symbol more, of a new number.
 use Rattle.std.proofs.Common.{◌≡◌, ◌≢◌, ℕ, suc, zero, ◌+◌, ◌<◌, Bool, true, false, cond, ◌==◌, List, [], ◌∷◌, ◌++◌, length, get_or, Option, Some, None, inl, inr, refl, sym, ◌∙◌, ap, subst, length-append, arith}
 use Rattle.std.proofs.lemmas.Bool.{eqb-true, eqb-false}
-use Rattle.geom.specs.Rows.{Among}
 use Rattle.cif_drawing.specs.declared.ink.Symbol.{Symbol}
 use Rattle.cif_drawing.specs.Numbers.{IsIndex, IsIndexOf}
 use Rattle.cif_drawing.proofs.Lists.{among_cases, among_at}

@@ -1,6 +1,5 @@
 -- Measures of boxes, of both of two lists, and of boxes at a call.
-use Rattle.std.proofs.Common.{◌≡◌, ◌≢◌, ℕ, suc, ◌+◌, ◌*◌, ◌^◌, ◌≤◌, min, Bool, true, false, ◌&&◌, ℤ, pos, neg_ℤ, ◌≤ℤ◌, List, [], ◌∷◌, ◌++◌, length, map, Option, Some, None, inl, inr, refl, sym, ◌∙◌, ap, subst, arith, length-append}
-use Rattle.std.specs.Int.{int_min, int_max}
+use Rattle.std.proofs.Common.{◌≡◌, ℕ, suc, ◌+◌, ◌≤◌, min, Bool, true, false, ◌&&◌, List, [], ◌∷◌, ◌++◌, length, map, Option, Some, None, inl, inr, refl, sym, ◌∙◌, ap, subst, arith, length-append}
 use Rattle.std.specs.List.{list_all}
 use Rattle.std.proofs.lemmas.List.{map-append}
 use Rattle.std.proofs.lemmas.List.Folds.{list_all-append}
@@ -12,9 +11,9 @@ use Rattle.cif_drawing.specs.declared.placement.Placement.{Placement}
 use Rattle.cif_drawing.specs.declared.wide_point.WidePoint.{WidePoint}
 use Rattle.cif_drawing.specs.declared.measure.Extent.{Extent}
 use Rattle.cif_drawing.specs.declared.measure.Measure.{Measure}
-use Rattle.cif_drawing.specs.Placements.{IsOrdered, placed, IsNear}
-use Rattle.cif_drawing.specs.Measures.{is_box, extent_box, RoundBoth, Measures, IsNearExtent, IsMeasure}
-use Rattle.cif_drawing.proofs.Lists.{append_nil, among_cases, among_map, map_map, no_append, no_map}
+use Rattle.cif_drawing.specs.Placements.{IsOrdered, placed}
+use Rattle.cif_drawing.specs.Measures.{is_box, extent_box, RoundBoth, Measures, IsMeasure}
+use Rattle.cif_drawing.proofs.Lists.{append_nil, among_cases, among_map}
 use Rattle.cif_drawing.proofs.Near.{near_extent_more}
 use Rattle.cif_drawing.proofs.Placed.{box_same, both, behind, placed_behind, placed_ordered, placed_both}
 use Rattle.cif_drawing.proofs.Tests.{box_both, ordered_box}

@@ -1,15 +1,15 @@
 -- Symbols by their numbers.
-use Rattle.std.proofs.Common.{◌≡◌, ◌≢◌, ℕ, zero, suc, ◌+◌, ◌<◌, Bool, true, false, cond, ◌==◌, List, [], ◌∷◌, ◌++◌, length, get_or, reverse, Option, Some, None, is_some, inl, inr, refl, sym, ◌∙◌, ap, subst, arith}
+use Rattle.std.proofs.Common.{◌≡◌, ◌≢◌, ℕ, zero, suc, ◌<◌, Bool, true, false, cond, ◌==◌, List, [], ◌∷◌, ◌++◌, length, get_or, reverse, Option, Some, None, is_some, inl, inr, refl, sym, ◌∙◌, ap, subst, arith}
 use Rattle.std.specs.List.{find, fold}
 use Rattle.std.proofs.lemmas.List.{reverse-append}
-use Rattle.std.proofs.lemmas.Bool.{eqb-true, eq-eqb, ne_eqb}
+use Rattle.std.proofs.lemmas.Bool.{eq-eqb, ne_eqb}
 use Rattle.geom.specs.Rows.{Among}
 use Rattle.geom.specs.CifDrawings.{CifSymbol}
 use Rattle.cif_drawing.specs.declared.ink.Symbol.{Symbol}
 use Rattle.cif_drawing.specs.Inks.{symbol_at, cif_symbol, with_symbol, closed_symbols, AreSymbols}
 use Rattle.cif_drawing.specs.Numbers.{IsIndex, IsIndexOf}
 use Rattle.cif_drawing.proofs.Lists.{among_at, among_left, among_right}
-use Rattle.cif_drawing.proofs.Standing.{StandsAt, front_stays, symbol_stands, length_closed}
+use Rattle.cif_drawing.proofs.Standing.{front_stays, symbol_stands, length_closed}
 
 abbrev pub found : List CifSymbol → ℕ → Option CifSymbol
 found symbols n = find (λ symbol. symbol.number == n) symbols

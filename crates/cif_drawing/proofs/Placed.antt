@@ -1,12 +1,11 @@
 -- Boxes that are placed, and placed again.
-use Rattle.std.proofs.Common.{◌≡◌, Bool, true, false, cond, ℤ, pos, ◌+ℤ◌, ◌<ℤ◌, refl, sym, ◌∙◌, ap, subst}
+use Rattle.std.proofs.Common.{◌≡◌, Bool, true, false, cond, ℤ, pos, ◌+ℤ◌, ◌∙◌, ap}
 use Rattle.std.specs.Int.{int_min, int_max}
 use Rattle.geom.specs.declared.layer.Layer.{Layer}
 use Rattle.geom.specs.declared.orient.Orient.{Orient}
 use Rattle.geom.specs.Squares.{BoxShape}
 use Rattle.geom.specs.Turns.{moved, turned_x, turned_y, flipped}
 use Rattle.cif_drawing.specs.declared.placement.Placement.{Placement}
-use Rattle.cif_drawing.specs.declared.wide_point.WidePoint.{WidePoint}
 use Rattle.cif_drawing.specs.Placements.{placed, IsOrdered}
 use Rattle.cif_drawing.proofs.Axes.{differ, flipped_twice, low_behind, high_behind, ordered_behind, low_still, high_still, low_both, high_both}
 

@@ -1,16 +1,15 @@
 -- The first stroke at which a code stands.
-use Rattle.std.proofs.Common.{◌≡◌, ◌≢◌, ℕ, ◌+◌, ◌<◌, ◌≤◌, true, false, List, [], ◌∷◌, ◌++◌, length, inl, inr, refl, sym, ◌∙◌, ap, subst, append_assoc, length-append, arith}
-use Rattle.std.specs.List.{list_all, flat_map}
+use Rattle.std.proofs.Common.{◌≡◌, ℕ, ◌<◌, true, List, [], ◌∷◌, ◌++◌, length, refl, sym, ◌∙◌, ap, subst, append_assoc, arith}
+use Rattle.std.specs.List.{list_all}
 use Rattle.std.proofs.lemmas.List.Concat.{flat_map-append}
-use Rattle.geom.specs.Squares.{BoxShape, IsBox}
-use Rattle.geom.specs.Rows.{Among}
+use Rattle.geom.specs.Squares.{BoxShape}
 use Rattle.geom.specs.declared.cif_code.CifCode.{CifCode}
 use Rattle.geom.specs.declared.cif_code.CifCode.TheVariants.{C8, C13}
 use Rattle.geom.specs.CifCodes.{code_number}
 use Rattle.geom.specs.CifDrawings.{CifStroke}
-use Rattle.geom.specs.CifRefusals.{stroke_boxes, StrokeFault, NoStrokeFault, FlatRefusal}
+use Rattle.geom.specs.CifRefusals.{stroke_boxes, StrokeFault, NoStrokeFault}
 use Rattle.cif_drawing.specs.declared.flattening.FlattenFault.{FlattenFault}
-use Rattle.cif_drawing.specs.declared.flattening.FlattenFault.TheVariants.{Fault, NoMemory}
+use Rattle.cif_drawing.specs.declared.flattening.FlattenFault.TheVariants.{Fault}
 use Rattle.cif_drawing.specs.Measures.{is_box}
 use Rattle.cif_drawing.specs.Flattening.{IsFlattenFault, IsCountOf, IsFaultOf}
 use Rattle.cif_drawing.proofs.Lists.{append_nil}

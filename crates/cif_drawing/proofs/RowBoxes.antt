@@ -1,5 +1,5 @@
 -- The boxes of a polygon, by rows.
-use Rattle.std.proofs.Common.{ℕ, Bool, true, false, not, ◌==◌, ℤ, pos, ◌-ℤ◌, int_lt, List, [], ◌∷◌, ◌++◌, map, cond}
+use Rattle.std.proofs.Common.{Bool, true, false, not, ℤ, pos, ◌-ℤ◌, int_lt, List, [], ◌∷◌, ◌++◌, map, cond}
 use Rattle.std.specs.List.{filter}
 use Rattle.geom.specs.declared.layer.Layer.{Layer}
 use Rattle.geom.specs.declared.point.Point.{Point}

@@ -1,18 +1,16 @@
 -- Symbols behind one another.
-use Rattle.std.proofs.Common.{◌≡◌, ◌≢◌, ℕ, zero, suc, ◌+◌, ◌<◌, ◌≤◌, List, [], ◌∷◌, ◌++◌, length, get_or, map, inl, inr, refl, sym, ◌∙◌, ap, subst, append_assoc, length-append, arith}
-use Rattle.std.specs.List.{fold, flat_map}
+use Rattle.std.proofs.Common.{◌≡◌, ◌≢◌, ℕ, zero, suc, ◌+◌, ◌<◌, ◌≤◌, List, [], ◌∷◌, ◌++◌, length, get_or, map, refl, sym, ◌∙◌, ap, subst, append_assoc, length-append, arith}
+use Rattle.std.specs.List.{fold}
 use Rattle.std.proofs.lemmas.List.Sums.{fold-append}
 use Rattle.geom.specs.Squares.{BoxShape}
 use Rattle.geom.specs.Rows.{Among}
 use Rattle.geom.specs.CifDrawings.{CifSymbol}
-use Rattle.cif_drawing.specs.declared.ink.Ink.{Ink}
-use Rattle.cif_drawing.specs.declared.ink.Ink.TheVariants.{Single, Several, Called}
+use Rattle.cif_drawing.specs.Shapes.{InkShape, Drawn, Called}
 use Rattle.cif_drawing.specs.declared.ink.Symbol.{Symbol}
-use Rattle.cif_drawing.specs.declared.ink.Stroke.{Stroke}
 use Rattle.cif_drawing.specs.Placements.{placed}
 use Rattle.cif_drawing.specs.Measures.{IsMeasure}
-use Rattle.cif_drawing.specs.Inks.{no_symbol, symbol_at, ink_boxes, ink_chain, inks_boxes, cif_symbol, with_symbol, closed_symbols, cif_stroke, strokes_of, IsCall, IsInk, IsInkOf, IsSymbol, AreSymbols, AreStrokes}
-use Rattle.cif_drawing.proofs.Lists.{map_alike, flat_map_alike}
+use Rattle.cif_drawing.specs.Inks.{symbol_at, ink_boxes, ink_chain, inks_boxes, cif_symbol, with_symbol, closed_symbols, IsInk, IsInkOf, IsSymbol, AreSymbols}
+use Rattle.cif_drawing.proofs.Lists.{flat_map_alike}
 
 -- ---- more symbols behind
 
@@ -21,33 +19,30 @@ at_left [] more k h = absurd (omega arith)
 at_left (c ∷ cs) more zero h = refl
 at_left (c ∷ cs) more (suc k) h = at_left cs more k (omega arith)
 
-pub ink_stays : (closed more : List CifSymbol) (ink : Ink) → IsInk closed ink → ink_boxes (closed ++ more) ink ≡ ink_boxes closed ink
-ink_stays closed more (Single b) h = refl
-ink_stays closed more (Several boxes) h = refl
+pub ink_stays : (closed more : List CifSymbol) (ink : InkShape) → IsInk closed ink → ink_boxes (closed ++ more) ink ≡ ink_boxes closed ink
+ink_stays closed more (Drawn boxes) h = refl
 ink_stays closed more (Called call) h =
     ap (λ (s : CifSymbol). map (placed call.placement) s.boxes) (at_left closed more call.symbol h.before)
 
-pub chain_stays : (closed more : List CifSymbol) (ink : Ink) → IsInk closed ink → ink_chain (closed ++ more) ink ≡ ink_chain closed ink
-chain_stays closed more (Single b) h = refl
-chain_stays closed more (Several boxes) h = refl
+pub chain_stays : (closed more : List CifSymbol) (ink : InkShape) → IsInk closed ink → ink_chain (closed ++ more) ink ≡ ink_chain closed ink
+chain_stays closed more (Drawn boxes) h = refl
 chain_stays closed more (Called call) h = ap (λ (s : CifSymbol). s.chain + 1) (at_left closed more call.symbol h.before)
 
-pub is_ink_still : (closed more : List CifSymbol) (ink : Ink) → IsInk closed ink → IsInk (closed ++ more) ink
-is_ink_still closed more (Single b) h = h
-is_ink_still closed more (Several boxes) h = h
+pub is_ink_still : (closed more : List CifSymbol) (ink : InkShape) → IsInk closed ink → IsInk (closed ++ more) ink
+is_ink_still closed more (Drawn boxes) h = h
 is_ink_still closed more (Called call) h = record {
   before = omega (arith, h.before, length-append closed more);
   draws = (let P : CifSymbol → Type 0 = λ s. s.boxes ≢ [] in subst P (sym (at_left closed more call.symbol h.before)) h.draws);
   near = h.near;
 }
 
-pub ink_of_still : (closed more : List CifSymbol) (chain : ℕ) (ink : Ink) → IsInkOf closed chain ink → IsInkOf (closed ++ more) chain ink
+pub ink_of_still : (closed more : List CifSymbol) (chain : ℕ) (ink : InkShape) → IsInkOf closed chain ink → IsInkOf (closed ++ more) chain ink
 ink_of_still closed more chain ink h = record {
   ink = is_ink_still closed more ink h.ink;
   short = omega (arith, h.short, chain_stays closed more ink h.ink);
 }
 
-pub inks_stay : (closed more : List CifSymbol) (inks : List Ink) → ((ink : Ink) → Among inks ink → IsInk closed ink)
+pub inks_stay : (closed more : List CifSymbol) (inks : List InkShape) → ((ink : InkShape) → Among inks ink → IsInk closed ink)
     → inks_boxes (closed ++ more) inks ≡ inks_boxes closed inks
 inks_stay closed more inks h = flat_map_alike (ink_boxes (closed ++ more)) (ink_boxes closed) inks (λ ink i. ink_stays closed more ink (h ink i))
 
@@ -89,21 +84,19 @@ symbols_more closed (r ∷ rs) s h k = (h.0, symbols_more (with_symbol closed r)
 -- ---- the symbol at an index
 
 -- how many symbols there have to be for it
-abbrev pub ink_rank : Ink → ℕ
-ink_rank (Single b) = 0
-ink_rank (Several boxes) = 0
+abbrev pub ink_rank : InkShape → ℕ
+ink_rank (Drawn boxes) = 0
 ink_rank (Called call) = call.symbol + 1
 
-rank_within : (closed : List CifSymbol) (ink : Ink) → IsInk closed ink → ink_rank ink ≤ length closed
-rank_within closed (Single b) h = omega arith
-rank_within closed (Several boxes) h = omega arith
+rank_within : (closed : List CifSymbol) (ink : InkShape) → IsInk closed ink → ink_rank ink ≤ length closed
+rank_within closed (Drawn boxes) h = omega arith
 rank_within closed (Called call) h = omega (arith, h.before)
 
 -- The symbol at this index, behind all symbols.
 pub record StandsAt (all : List CifSymbol) (k : ℕ) (s : Symbol) : Type 0 where
   pub is : symbol_at all k ≡ cif_symbol all s
   pub symbol : IsSymbol all s
-  pub below : (ink : Ink) → Among s.inks.items ink → ink_rank ink ≤ k
+  pub below : (ink : InkShape) → Among s.inks.items ink → ink_rank ink ≤ k
 
 at_behind : (closed : List CifSymbol) (c : CifSymbol) (more : List CifSymbol) → symbol_at ((closed ++ c ∷ []) ++ more) (length closed) ≡ c
 at_behind [] c more = refl

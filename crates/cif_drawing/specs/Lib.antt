@@ -4,6 +4,7 @@ pub mod Parts
 pub mod Flattening
 -- Definitions that serve private contracts alone:
 pub mod Measures
+pub mod Shapes
 pub mod Inks
 pub mod Numbers
 pub mod Building

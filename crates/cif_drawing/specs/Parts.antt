@@ -1,5 +1,5 @@
 -- What the commands of a text have drawn so far.
-use Rattle.std.specs.Prelude.{◌≡◌, ◌⊎◌, ℕ, ◌==◌, max, List, [], ◌∷◌, ◌++◌, find, Option, Some, None}
+use Rattle.std.specs.Prelude.{ℕ, ◌==◌, max, List, [], ◌∷◌, ◌++◌, find, Option, Some, None}
 use Rattle.rx_text.specs.declared.place.Place.{Place}
 use Rattle.geom.specs.declared.chip.Label.{Label}
 use Rattle.geom.specs.Squares.{BoxShape}

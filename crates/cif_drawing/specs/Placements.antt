@@ -1,5 +1,5 @@
 -- Where calls put the boxes of their symbols.
-use Rattle.std.specs.Prelude.{ℕ, ℤ, pos, neg_ℤ, ◌≤ℤ◌, ◌<ℤ◌, List, map, fold}
+use Rattle.std.specs.Prelude.{ℕ, pos, neg_ℤ, ◌≤ℤ◌, ◌<ℤ◌, List, map, fold}
 use Rattle.geom.specs.Squares.{BoxShape}
 use Rattle.geom.specs.Turns.{moved, IsReachable}
 use Rattle.cif_drawing.specs.declared.placement.Step.{Step}

@@ -7,18 +7,21 @@ ghost use Rattle.geom.specs.Squares.{BoxShape};
 ghost use Rattle.cif_shapes.specs.Polygons.{IsPolygon};
 ghost use Rattle.cif_drawing.specs.Placements.{IsStep, stepped_boxes};
 ghost use Rattle.cif_drawing.specs.Parts.{DrawingParts, blank_parts, part_of, part_boxes, part_chain, chain_or_none, opened_parts, closed_parts, drawn_parts, labelled_parts};
+ghost use Rattle.cif_drawing.specs.Shapes.{kept_ink, kept_place};
 ghost use Rattle.cif_drawing.specs.Building.{IsInked, IsAdded};
 
 use crate::drawing::Drawing;
-use crate::expanding::measure_ink;
-use crate::ink::{Call, Ink, Stroke, Symbol};
+use crate::expanding::measure_kept;
+use crate::ink::{Ink, Stroke, Symbol};
+use crate::kept::{Call, Kept};
 use crate::measure::Measure;
 use crate::measuring::{joined, measure_boxes};
 use crate::placement::{Placement, Step};
 use crate::symbols::Symbols;
+use crate::text_place::TextPlace;
 use cif_shapes::polygon_boxes;
 use geom::{Box2, Label, Layer, Point};
-use rx_text::{NoMemory, Place};
+use rx_text::NoMemory;
 use std::alloc::Global;
 use std::marker::Model;
 
@@ -115,19 +118,13 @@ impl DrawingBuilder {
     /// # Errors
     ///
     /// `NoMemory` where an allocation was refused.
-    pub fn add_box(&mut self, place: Place, b: Box2) -> Result<(), NoMemory>
+    pub fn add_box(&mut self, alloc: Global, place: TextPlace, b: Box2) -> Result<(), NoMemory>
         ensures { OnOk result (self.new ≡ drawn_parts self.old place (b ∷ []) 0 self.old.opening) }
     {
-        let opening = self.opening.take();
+        let kept = Kept::single(alloc, place, b)?;
         let measure = Some(Measure::of(b));
-        self.opening = added(
-            opening,
-            &mut self.strokes,
-            place,
-            Ink::Single(b),
-            measure,
-            0,
-        )?;
+        let opening = self.opening.take();
+        self.opening = added(opening, &mut self.strokes, kept, measure, 0)?;
         Ok(())
     }
 
@@ -136,14 +133,19 @@ impl DrawingBuilder {
     /// # Errors
     ///
     /// `NoMemory` where an allocation was refused.
-    pub fn add_boxes(&mut self, place: Place, boxes: Vec<Box2>) -> Result<(), NoMemory>
+    pub fn add_boxes(
+        &mut self,
+        alloc: Global,
+        place: TextPlace,
+        boxes: Vec<Box2>,
+    ) -> Result<(), NoMemory>
         ensures { OnOk result (self.new ≡ drawn_parts self.old place boxes.items 0 self.old.opening) }
     {
         match measure_boxes(&boxes) {
             Some(measure) => {
+                let kept = Kept::several(alloc, place, boxes)?;
                 let opening = self.opening.take();
-                let ink = Ink::Several(boxes);
-                self.opening = added(opening, &mut self.strokes, place, ink, Some(measure), 0)?;
+                self.opening = added(opening, &mut self.strokes, kept, Some(measure), 0)?;
                 Ok(())
             }
             None => Ok(()),
@@ -158,7 +160,7 @@ impl DrawingBuilder {
     pub fn add_polygon(
         &mut self,
         alloc: Global,
-        place: Place,
+        place: TextPlace,
         layer: Layer,
         points: &[Point],
     ) -> Result<(), NoMemory>
@@ -167,7 +169,7 @@ impl DrawingBuilder {
             × (self.new ≡ drawn_parts self.old place boxes 0 self.old.opening)) }
     {
         let boxes = polygon_boxes(alloc, layer, points)?;
-        self.add_boxes(place, boxes)
+        self.add_boxes(alloc, place, boxes)
     }
 
     /// Calls the closed definition of this number, with transformations that act from left to right.
@@ -175,7 +177,13 @@ impl DrawingBuilder {
     /// # Errors
     ///
     /// `NoMemory` where an allocation was refused.
-    pub fn call(&mut self, place: Place, number: u64, steps: &[Step]) -> Result<(), NoMemory>
+    pub fn call(
+        &mut self,
+        alloc: Global,
+        place: TextPlace,
+        number: u64,
+        steps: &[Step],
+    ) -> Result<(), NoMemory>
         requires defined { IsSome (part_of self.old number) }
         requires short { chain_or_none (part_of self.old number) ≤ 64 }
         requires steps { (step : Step) → Among steps.now step → IsStep step }
@@ -189,14 +197,14 @@ impl DrawingBuilder {
                 if chain == 0 {
                     return Ok(());
                 }
-                let placement = Placement::of(steps);
-                let ink = Ink::Called(Call {
+                let call = Call {
                     symbol: index,
-                    placement,
-                });
-                let measure = measure_ink(symbols, &ink);
+                    placement: Placement::of(steps),
+                };
+                let kept = Kept::called(alloc, place, call)?;
+                let measure = measure_kept(symbols, &kept);
                 let opening = self.opening.take();
-                self.opening = added(opening, &mut self.strokes, place, ink, measure, chain)?;
+                self.opening = added(opening, &mut self.strokes, kept, measure, chain)?;
                 Ok(())
             }
             None => Ok(()),
@@ -243,18 +251,17 @@ fn chain_of_call(symbol: &Symbol) -> u64
 fn added(
     opening: Option<Symbol>,
     strokes: &mut Vec<Stroke>,
-    place: Place,
-    ink: Ink,
+    kept: Kept,
     measure: Option<Measure>,
     chain: u64,
 ) -> Result<Option<Symbol>, NoMemory>
-    ensures added { IfOk result (λ new. IsAdded opening strokes.old.items place ink measure chain new strokes.new.items) }
+    ensures added { IfOk result (λ new. IsAdded opening strokes.old.items (kept_place kept) (kept_ink kept) measure chain new strokes.new.items) }
     ensures kept { OnErr result (strokes.new.items ≡ strokes.old.items) }
 {
     match opening {
-        Some(symbol) => Ok(Some(inked(symbol, ink, measure, chain)?)),
+        Some(symbol) => Ok(Some(inked(symbol, Ink::new(kept), measure, chain)?)),
         None => {
-            strokes.push(Stroke { place, ink })?;
+            strokes.push(Stroke::new(kept))?;
             Ok(None)
         }
     }

@@ -2,11 +2,13 @@
 
 ghost use Rattle.std.specs.Prelude.{◌≡◌, true, ◌<◌, ◌≤◌, length, slice_index_or, ◌-◌, ◌*◌, ◌^◌, ◌++◌, ◌∷◌, [], map, OnOk};
 ghost use Rattle.std.specs.List.{list_all};
+ghost use Rattle.cif_drawing.specs.Shapes.{kept_ink};
 ghost use Rattle.cif_drawing.specs.Placements.{placed, IsNear};
 ghost use Rattle.cif_drawing.specs.Measures.{is_box, IsMeasure};
 ghost use Rattle.cif_drawing.specs.Inks.{closed_symbols, ink_boxes, ink_chain, IsInk, AreSymbols};
 
-use crate::ink::{Call, Ink, Symbol};
+use crate::ink::Symbol;
+use crate::kept::{Call, Kept};
 use crate::measure::{Extent, Measure};
 use crate::measuring::{called, measure_boxes};
 use crate::placement::Placement;
@@ -14,50 +16,48 @@ use geom::Box2;
 use rx_text::NoMemory;
 
 /// The measure of what stands behind these symbols.
-pub fn measure_ink(symbols: &[Symbol], ink: &Ink) -> Option<Measure>
+pub fn measure_kept(symbols: &[Symbol], kept: &Kept) -> Option<Measure>
     requires symbols { AreSymbols [] symbols.now }
-    requires ink { IsInk (closed_symbols symbols.now) ink.now }
-    ensures { IsMeasure (ink_chain (closed_symbols symbols.now) ink.now) result (ink_boxes (closed_symbols symbols.now) ink.now) }
+    requires ink { IsInk (closed_symbols symbols.now) (kept_ink kept.now) }
+    ensures { IsMeasure (ink_chain (closed_symbols symbols.now) (kept_ink kept.now)) result (ink_boxes (closed_symbols symbols.now) (kept_ink kept.now)) }
 {
-    match ink {
-        Ink::Single(b) => Some(Measure::of(*b)),
-        Ink::Several(boxes) => measure_boxes(boxes),
-        Ink::Called(call) => called(symbol_of(symbols, call).measure, call.placement),
+    match kept.call() {
+        Some(call) => called(symbol_of(symbols, call).measure, call.placement),
+        None => measure_boxes(kept.boxes()),
     }
 }
 
 /// Adds the boxes of what stands behind these symbols, placed. A chain of calls is at most 64 deep.
 pub fn expand(
     symbols: &[Symbol],
-    ink: &Ink,
+    kept: &Kept,
     placement: Placement,
     boxes: &mut Vec<Box2>,
 ) -> Result<(), NoMemory>
     requires symbols { AreSymbols [] symbols.now }
-    requires ink { IsInk (closed_symbols symbols.now) ink.now }
-    requires short { ink_chain (closed_symbols symbols.now) ink.now ≤ 64 }
-    requires near { IsNear ((66 - ink_chain (closed_symbols symbols.now) ink.now) * 2 ^ 103) placement.by }
-    requires within { list_all is_box (map (placed placement) (ink_boxes (closed_symbols symbols.now) ink.now)) ≡ true }
+    requires ink { IsInk (closed_symbols symbols.now) (kept_ink kept.now) }
+    requires short { ink_chain (closed_symbols symbols.now) (kept_ink kept.now) ≤ 64 }
+    requires near { IsNear ((66 - ink_chain (closed_symbols symbols.now) (kept_ink kept.now)) * 2 ^ 103) placement.by }
+    requires within { list_all is_box (map (placed placement) (ink_boxes (closed_symbols symbols.now) (kept_ink kept.now))) ≡ true }
     ensures { OnOk result
-        (boxes.new.items ≡ boxes.old.items ++ map (placed placement) (ink_boxes (closed_symbols symbols.now) ink.now)) }
+        (boxes.new.items ≡ boxes.old.items ++ map (placed placement) (ink_boxes (closed_symbols symbols.now) (kept_ink kept.now))) }
 {
-    match ink {
-        Ink::Single(b) => boxes.push(place(*b, placement))?,
-        Ink::Several(several) => add_placed(several, placement, boxes)?,
-        Ink::Called(call) => {
+    match kept.call() {
+        Some(call) => {
             let inner = call.placement.then(placement);
             for ink in &symbol_of(symbols, call).inks {
-                expand(symbols, ink, inner, boxes)?;
+                expand(symbols, ink.kept(), inner, boxes)?;
             }
+            Ok(())
         }
+        None => add_placed(kept.boxes(), placement, boxes),
     }
-    Ok(())
 }
 
 /// The symbol that is called.
-fn symbol_of<'a>(symbols: &'a [Symbol], call: &Call) -> &'a Symbol
-    requires { call.now.symbol < length symbols.now }
-    ensures { result.now ≡ slice_index_or symbols.now call.now.symbol result.now }
+fn symbol_of(symbols: &[Symbol], call: Call) -> &Symbol
+    requires { call.symbol < length symbols.now }
+    ensures { result.now ≡ slice_index_or symbols.now call.symbol result.now }
 {
     &symbols[call.symbol]
 }

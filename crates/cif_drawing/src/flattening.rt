@@ -10,7 +10,7 @@ ghost use Rattle.cif_drawing.specs.Inks.{IsInkOf, AreSymbols, AreStrokes, closed
 ghost use Rattle.cif_drawing.specs.Flattening.{IsFlattenFault, IsCountOf, IsFaultOf};
 
 use crate::drawing::Drawing;
-use crate::expanding::{expand, measure_ink};
+use crate::expanding::{expand, measure_kept};
 use crate::ink::{Stroke, Symbol};
 use crate::measure::MOST_BOXES;
 use crate::placement::Placement;
@@ -109,7 +109,7 @@ fn list_boxes(
 {
     let mut boxes = Vec::with_capacity(alloc, count)?;
     for stroke in strokes {
-        expand(symbols, &stroke.ink, Placement::still(), &mut boxes)?;
+        expand(symbols, stroke.kept(), Placement::still(), &mut boxes)?;
     }
     Ok(boxes)
 }
@@ -122,14 +122,14 @@ fn count_stroke(symbols: &[Symbol], stroke: &Stroke, before: usize) -> Result<us
     ensures count { IfOk result (λ count. IsCountOf before (cif_stroke (closed_symbols symbols.now) stroke.now) count) }
     ensures fault { IfErr result (λ fault. IsFaultOf before (cif_stroke (closed_symbols symbols.now) stroke.now) fault) }
 {
-    let Some(measure) = measure_ink(symbols, &stroke.ink) else {
+    let Some(measure) = measure_kept(symbols, stroke.kept()) else {
         return Ok(0);
     };
     if !measure.extent.is_box() {
-        return Err(fault(CifCode::C8, stroke.place));
+        return Err(fault(CifCode::C8, stroke.kept().place()));
     }
     if MOST_BOXES - (before as u64) < measure.count {
-        return Err(fault(CifCode::C13, stroke.place));
+        return Err(fault(CifCode::C13, stroke.kept().place()));
     }
     Ok(measure.count as usize)
 }

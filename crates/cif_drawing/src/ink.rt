@@ -1,23 +1,40 @@
 // What stands in a drawing.
 
-use crate::measure::Measure;
-use crate::placement::Placement;
-use geom::Box2;
-use rx_text::Place;
+ghost use Rattle.std.specs.Prelude.{◌≡◌};
+ghost use Rattle.cif_drawing.specs.Shapes.{kept_ink, kept_place};
 
-/// A call of a symbol, by its number in the order of the text, from 0.
-#[derive(Clone, Copy, Debug, PartialEq, Eq)]
-pub struct Call {
-    pub symbol: usize,
-    pub placement: Placement,
+use crate::kept::Kept;
+use crate::measure::Measure;
+use std::marker::Model;
+
+/// A command in a definition: seen as what it draws.
+#[derive(Drop)]
+pub struct Ink {
+    kept: Kept,
 }
 
-/// What a command draws, by its own scale: boxes, or a symbol somewhere.
-#[derive(Drop)]
-pub enum Ink {
-    Single(Box2),
-    Several(Vec<Box2>),
-    Called(Call),
+impl Model for Ink {
+    ghost use Rattle.cif_drawing.specs.Shapes.{InkShape, kept_ink};
+
+    ghost Value = { InkShape };
+
+    ghost view = { λ ink. kept_ink ink.kept };
+}
+
+impl Ink {
+    /// The command.
+    pub fn new(kept: Kept) -> Ink
+        ensures { result ≡ kept_ink kept }
+    {
+        Ink { kept }
+    }
+
+    /// The command.
+    pub fn kept(&self) -> &Kept
+        ensures { kept_ink result.now ≡ self.now }
+    {
+        &self.kept
+    }
 }
 
 /// A definition: its number, what stands in it, how many calls it makes, one within another, and its measure, which is none
@@ -30,9 +47,33 @@ pub struct Symbol {
     pub measure: Option<Measure>,
 }
 
-/// A command outside definitions.
+/// A command outside definitions: seen as its place, and what it draws.
 #[derive(Drop)]
 pub struct Stroke {
-    pub place: Place,
-    pub ink: Ink,
+    kept: Kept,
+}
+
+impl Model for Stroke {
+    ghost use Rattle.cif_drawing.specs.Shapes.{StrokeShape, kept_ink, kept_place};
+
+    ghost Value = { StrokeShape };
+
+    ghost view = { λ s. record { place = kept_place s.kept; ink = kept_ink s.kept } };
+}
+
+impl Stroke {
+    /// The command.
+    pub fn new(kept: Kept) -> Stroke
+        ensures { result ≡ record { place = kept_place kept; ink = kept_ink kept } }
+    {
+        Stroke { kept }
+    }
+
+    /// The command.
+    pub fn kept(&self) -> &Kept
+        ensures place { kept_place result.now ≡ self.now.place }
+        ensures ink { kept_ink result.now ≡ self.now.ink }
+    {
+        &self.kept
+    }
 }

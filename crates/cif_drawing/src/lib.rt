@@ -6,11 +6,13 @@ mod drawing;
 mod expanding;
 mod flattening;
 mod ink;
+mod kept;
 mod laws;
 mod measure;
 mod measuring;
 mod placement;
 mod symbols;
+mod text_place;
 mod wide_point;
 
 pub use building::DrawingBuilder;
@@ -19,3 +21,4 @@ pub use flattening::{Flat, FlattenFault, flatten};
 pub use laws::{polygons_have_one_list, texts_draw_flat_boxes};
 pub use placement::Step;
 pub use rx_text::NoMemory;
+pub use text_place::TextPlace;

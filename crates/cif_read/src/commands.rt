@@ -8,12 +8,12 @@ ghost use Rattle.cif_figures.specs.Figures.{CommandOf, command_of, IsFaultOf};
 ghost use Rattle.cif_read.specs.States.{IsReader, IsRead, state_of};
 
 use crate::reader::{Open, Reader};
+use cif_drawing::TextPlace;
 use cif_figures::{
     FigureFault, box_drawn, called_number, definition_closed, definition_opened, label_put,
     layer_set, opened_number, others_lead_on, polygon_drawn, steps_called, wire_drawn,
 };
 use cif_kinds::{CommandKind, command_kind};
-use rx_text::Place;
 use std::alloc::Global;
 
 impl Reader {
@@ -24,7 +24,7 @@ impl Reader {
         text: &[u8],
         first: usize,
         end: usize,
-        place: Place,
+        place: TextPlace,
     ) -> Result<(), FigureFault>
         requires stands { (from : ℕ) × IsCommandAt text.now from first end }
         requires reader { IsReader self.old }
@@ -40,7 +40,7 @@ impl Reader {
             CommandKind::Closes => self.close(),
             CommandKind::Calls => self.call(alloc, text, first, place),
             CommandKind::Layer => self.set_layer(text, first),
-            CommandKind::Box => self.draw_box(text, first, place),
+            CommandKind::Box => self.draw_box(alloc, text, first, place),
             CommandKind::Polygon => self.draw_polygon(alloc, text, first, place),
             CommandKind::Wire => self.draw_wire(alloc, text, first, place),
             CommandKind::Extension => self.put_label(text, first, end),
@@ -89,7 +89,7 @@ impl Reader {
         alloc: Global,
         text: &[u8],
         first: usize,
-        place: Place,
+        place: TextPlace,
     ) -> Result<(), FigureFault>
         requires command { (end : ℕ) × CommandOf text.now first end kind.Calls }
         requires reader { IsReader self.old }
@@ -101,7 +101,7 @@ impl Reader {
         let number = called_number(text, first);
         let chain = self.builder.chain_of_call(number);
         let steps = steps_called(alloc, text, first, self.scale(), chain)?;
-        self.builder.call(place, number, &steps)?;
+        self.builder.call(alloc, place, number, &steps)?;
         Ok(())
     }
 
@@ -119,7 +119,13 @@ impl Reader {
     }
 
     /// Draws a box.
-    fn draw_box(&mut self, text: &[u8], first: usize, place: Place) -> Result<(), FigureFault>
+    fn draw_box(
+        &mut self,
+        alloc: Global,
+        text: &[u8],
+        first: usize,
+        place: TextPlace,
+    ) -> Result<(), FigureFault>
         requires command { (end : ℕ) × CommandOf text.now first end kind.Box }
         requires reader { IsReader self.old }
         ensures read { OnOk result ((end : ℕ) (c : CommandOf text.now first end kind.Box)
@@ -128,7 +134,7 @@ impl Reader {
             → IsFaultOf (state_of self.old) (command_of text.now first end kind.Box c) fault) }
     {
         let b = box_drawn(text, first, self.scale(), self.layer)?;
-        self.builder.add_box(place, b)?;
+        self.builder.add_box(alloc, place, b)?;
         Ok(())
     }
 
@@ -138,7 +144,7 @@ impl Reader {
         alloc: Global,
         text: &[u8],
         first: usize,
-        place: Place,
+        place: TextPlace,
     ) -> Result<(), FigureFault>
         requires command { (end : ℕ) × CommandOf text.now first end kind.Polygon }
         requires reader { IsReader self.old }
@@ -159,7 +165,7 @@ impl Reader {
         alloc: Global,
         text: &[u8],
         first: usize,
-        place: Place,
+        place: TextPlace,
     ) -> Result<(), FigureFault>
         requires command { (end : ℕ) × CommandOf text.now first end kind.Wire }
         requires reader { IsReader self.old }
@@ -169,7 +175,7 @@ impl Reader {
             → IsFaultOf (state_of self.old) (command_of text.now first end kind.Wire c) fault) }
     {
         let boxes = wire_drawn(alloc, text, first, self.scale(), self.layer)?;
-        self.builder.add_boxes(place, boxes)?;
+        self.builder.add_boxes(alloc, place, boxes)?;
         Ok(())
     }
 

@@ -3,7 +3,7 @@
 ghost use Rattle.std.specs.Prelude.{◌≡◌, ◌≤◌, ◌<◌, ◌-◌, ◌^◌, length};
 ghost use Rattle.cif_read.specs.Marks.{IsMark, place_of, next_mark};
 
-use rx_text::Place;
+use cif_drawing::TextPlace;
 
 /// The number of a byte in a text, and its line and column.
 #[derive(Clone, Copy, Debug, PartialEq, Eq)]
@@ -27,13 +27,10 @@ impl Mark {
     }
 
     /// Its line and column.
-    pub fn place(self) -> Place
+    pub fn place(self) -> TextPlace
         ensures { result ≡ place_of self }
     {
-        Place::Text {
-            line: self.line,
-            column: self.column,
-        }
+        TextPlace::new(self.line, self.column)
     }
 
     /// The byte of this number, which comes later. Takes a time in proportion to the bytes between.

@@ -103,7 +103,7 @@ fn stopped(fault: FigureFault, here: Mark) -> ReadCifFault
     match fault {
         FigureFault::Meets(code) => ReadCifFault::Fault(CifFault {
             code,
-            place: here.place(),
+            place: here.place().place(),
         }),
         FigureFault::NoMemory => ReadCifFault::NoMemory,
     }

@@ -14,6 +14,8 @@ mod recognisers;
 #[cfg(test)]
 mod runs;
 #[cfg(test)]
+mod served;
+#[cfg(test)]
 mod streams;
 #[cfg(test)]
 mod texts;

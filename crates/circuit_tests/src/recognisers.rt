@@ -10,7 +10,7 @@ use rx_text::Role;
 use star_normal::normalize;
 use std::alloc::Global;
 use std::test::Fail;
-use switch_sim::run_trace;
+use switch_sim::{Asked, run_trace};
 
 /// A specification, the vectors of a word, and the outputs after each of its fronts.
 const SHOWN: &[(&str, &str, &str)] = &[
@@ -192,7 +192,18 @@ fn by_transistors(alloc: Global, net: &NorNet, vectors: &str) -> Result<Vec<u8>,
     text.push_str("chip\n")?;
     let (trace, _) = trace(alloc, text.as_str())??;
     let mut sink = MemSink::new(alloc, 1000, Vec::new(alloc), 1000)?;
-    run_trace(alloc, &network, &trace, &mut sink)?;
+    let asked = Asked {
+        toggles: false,
+        waves: false,
+    };
+    run_trace(
+        alloc,
+        &network,
+        &trace,
+        asked,
+        &mut Vec::new(alloc),
+        &mut sink,
+    )?;
     Ok(sink.held().to_vec(alloc)?)
 }
 

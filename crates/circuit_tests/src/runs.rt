@@ -6,7 +6,7 @@ use rx_text::Place;
 use std::alloc::Global;
 use std::test::Fail;
 use switch_net::{Level, Net, Network};
-use switch_sim::{ReadTraceFault, RunFault, Sim, TraceFault, run_trace};
+use switch_sim::{Asked, ReadTraceFault, RunFault, Sim, TraceFault, run_trace};
 
 /// VDD, GND, PHI1, PHI2 and RESET on the nets from 0 to 4, the inputs `x` and `y` on 5 and 6, the output `z` on 7; nets 8 and 9
 /// have no pad.
@@ -106,7 +106,11 @@ fn run(
     let network = with_devices(alloc, devices)?;
     let text = format!(in alloc; "{vectors}chip\n")?;
     let (trace, _) = trace(alloc, text.as_str())??;
-    Ok(run_trace(alloc, &network, &trace, sink))
+    let asked = Asked {
+        toggles: true,
+        waves: true,
+    };
+    Ok(run_trace(alloc, &network, &trace, asked, &mut Vec::new(alloc), sink))
 }
 
 #[test]

@@ -12,7 +12,7 @@ use star_normal::normalize;
 use std::alloc::Global;
 use std::{fs, io};
 use switch_net::Network;
-use switch_sim::{read_trace, run_trace};
+use switch_sim::{Asked, read_trace, run_trace};
 
 /// The most bytes of a file that is read, and of a text that is written.
 const MOST_BYTES: usize = 1 << 24;
@@ -53,7 +53,19 @@ fn shown(alloc: Global, spec: &[u8], trace: &[u8]) -> Option<Vec<u8>> {
     }
     let (trace, _) = read_trace(alloc, trace).ok()?;
     let mut sink = MemSink::new(alloc, MOST_BYTES, Vec::new(alloc), MOST_BYTES).ok()?;
-    run_trace(alloc, &network, &trace, &mut sink).ok()?;
+    let asked = Asked {
+        toggles: false,
+        waves: false,
+    };
+    run_trace(
+        alloc,
+        &network,
+        &trace,
+        asked,
+        &mut Vec::new(alloc),
+        &mut sink,
+    )
+    .ok()?;
     sink.held().to_vec(alloc).ok()
 }
 

@@ -5,6 +5,7 @@ pub mod FilledColumns
 pub mod PartHeights
 pub mod Chains
 pub mod DrawnTiles
+pub mod MatrixTiles
 pub mod TileNets
 pub mod CellNets
 pub mod ColumnsOfNets
@@ -20,6 +21,7 @@ pub mod MatrixModules
 pub mod PartRowsFine
 pub mod PartDevices
 pub mod PartLoads
+pub mod OpenedLoads
 pub mod PartModules
 pub mod OpenGate
 pub mod EndedGate

@@ -75,7 +75,7 @@ module _ (p q : ℕ → Bool) where
 
 -- ---- loads of gates
 
-output_more : (gates : List NorGate) (gate : NorGate) (n : ℕ) → is_output (gates ++ gate ∷ []) n ≡ (is_output gates n || (gate.out == n))
+pub output_more : (gates : List NorGate) (gate : NorGate) (n : ℕ) → is_output (gates ++ gate ∷ []) n ≡ (is_output gates n || (gate.out == n))
 output_more [] gate n = elim (gate.out == n) as (λ t. (t || false) ≡ t) [ true ↦ refl | false ↦ refl ]
 output_more (one ∷ gates) gate n =
     ap (λ t. (one.out == n) || t) (output_more gates gate n)
@@ -85,19 +85,19 @@ output_more (one ∷ gates) gate n =
       | false ↦ refl
     ])
 
-and_right : (t : Bool) → (t && true) ≡ t
+pub and_right : (t : Bool) → (t && true) ≡ t
 and_right true = refl
 and_right false = refl
 
-and_none : (t : Bool) → (t && false) ≡ false
+pub and_none : (t : Bool) → (t && false) ≡ false
 and_none true = refl
 and_none false = refl
 
-or_yes : (t : Bool) → (t || true) ≡ true
+pub or_yes : (t : Bool) → (t || true) ≡ true
 or_yes true = refl
 or_yes false = refl
 
-or_no : (t : Bool) → (t || false) ≡ t
+pub or_no : (t : Bool) → (t || false) ≡ t
 or_no true = refl
 or_no false = refl
 

@@ -4,7 +4,9 @@ pub mod Columns
 pub mod Cells
 pub mod Matrices
 pub mod PartRows
+pub mod OpenLoads
 pub mod Drawn
 pub mod MatrixNets
 pub mod Modules
 pub mod Examples
+pub mod SortedNets

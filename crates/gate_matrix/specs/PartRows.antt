@@ -7,15 +7,23 @@ use Rattle.nor_net.specs.Part.{PartTables, clock_net}
 use Rattle.nor_net.specs.declared.gate.Transfer.{Transfer}
 use Rattle.gate_matrix.specs.Rows.{MatrixRow, load_rows, gate_rows, device_rows}
 
+-- the load of the net is in the part, and none of these gates has this output
+abbrev pub is_open : PartTables → List NorGate → ℕ → Bool
+is_open part earlier net = list_any (λ one. one == net) part.loads && not (is_output earlier net)
+
 -- the gate is the first of its output, behind these, and the output's load is in the part
 abbrev pub has_load : PartTables → List NorGate → NorGate → Bool
-has_load part earlier gate = list_any (λ net. net == gate.out) part.loads && not (is_output earlier gate.out)
+has_load part earlier gate = is_open part earlier gate.out
 
--- the rows of a gate
-abbrev pub rows_of_gate : PartTables → List NorGate → NorGate → List MatrixRow
-rows_of_gate part earlier gate =
-    if has_load part earlier gate then gate_rows part.vdd part.gnd gate.out gate.inputs
+-- the rows of a gate, with its load or without it
+abbrev pub rows_with : PartTables → Bool → NorGate → List MatrixRow
+rows_with part loaded gate =
+    if loaded then gate_rows part.vdd part.gnd gate.out gate.inputs
     else device_rows gate.out gate.inputs part.gnd
+
+-- it has its load where that is in the part and no gate before has it
+abbrev pub rows_of_gate : PartTables → List NorGate → NorGate → List MatrixRow
+rows_of_gate part earlier gate = rows_with part (has_load part earlier gate) gate
 
 -- the rows of gates in order, behind these
 abbrev pub rows_of_gates : PartTables → List NorGate → List NorGate → List MatrixRow

@@ -1,12 +1,14 @@
 // The rows in which a part is drawn.
 
-ghost use Rattle.std.specs.Prelude.{◌≡◌, ◌≤◌, ◌-◌, ◌+◌, ◌++◌, [], ◌∷◌, flat_map, replicate, IfOk, OnOk};
-ghost use Rattle.gate_matrix.specs.PartRows.{height_of_part, rows_of_part, rows_of_gate, rows_of_gates, rows_of_load, rows_of_transfer};
+ghost use Rattle.std.specs.Prelude.{◌≡◌, ◌≤◌, ◌-◌, ◌+◌, ◌++◌, [], ◌∷◌, flat_map, replicate, if◌then◌else◌, IfOk, OnOk};
+ghost use Rattle.gate_matrix.specs.PartRows.{height_of_part, rows_of_part, rows_with, rows_of_gates, rows_of_load, rows_of_transfer};
+ghost use Rattle.gate_matrix.specs.OpenLoads.{AreOpen};
 ghost use Rattle.nor_net.specs.Part.{IsPart, clock_net};
 ghost use Rattle.gate_matrix.specs.declared.row.RowKind.TheVariants.{Middle, Bottom};
 ghost use Rattle.gate_matrix.specs.Rows.{blank_row, closed_row, load_rows, device_rows, gate_rows};
 
-use crate::heights::{has_load, is_output, needed};
+use crate::heights::needed;
+use crate::open_loads::OpenLoads;
 use crate::row::{Row, RowKind};
 use nor_net::{Gate, Part, Transfer};
 use rx_text::{NoMemory, Role};
@@ -19,8 +21,9 @@ pub fn part_rows(alloc: Global, part: &Part, rows: u32) -> Result<Vec<Row>, NoMe
     ensures part { IsPart part.now }
 {
     let mut list = blank_rows(alloc, rows - needed(part).0)?;
-    add_gates(alloc, part, &mut list)?;
-    add_loads(alloc, part, &mut list)?;
+    let mut open_loads = OpenLoads::of(part);
+    add_gates(alloc, part, &mut open_loads, &mut list)?;
+    add_loads(alloc, part, &open_loads, &mut list)?;
     add_transfers(alloc, part, &mut list)?;
     Ok(list)
 }
@@ -40,13 +43,7 @@ fn blank_rows(alloc: Global, count: u32) -> Result<Vec<Row>, NoMemory>
 pub fn closed_row(alloc: Global, kind: RowKind, metal: u32, gated: &[u32]) -> Result<Row, NoMemory>
     ensures { IfOk result (λ row. row ≡ closed_row kind metal gated.now) }
 {
-    let gated = Vec::from_slice(alloc, gated)?;
-    Ok(Row {
-        kind,
-        metal,
-        gated,
-        onward: false,
-    })
+    Row::new(alloc, kind, metal, gated, false)
 }
 
 /// Adds a load between the high supply and the net, and the tops of devices.
@@ -93,30 +90,37 @@ fn add_device_rows(
     add_devices(alloc, list, gated, bottom)
 }
 
-/// Adds the rows of all gates.
-fn add_gates(alloc: Global, part: &Part, list: &mut Vec<Row>) -> Result<(), NoMemory>
-    ensures { OnOk result (list.new.items ≡ list.old.items ++ rows_of_gates part.now [] part.now.gates) }
+/// Adds the rows of all gates, each with its load where that is still open.
+fn add_gates(
+    alloc: Global,
+    part: &Part,
+    open_loads: &mut OpenLoads,
+    list: &mut Vec<Row>,
+) -> Result<(), NoMemory>
+    requires { AreOpen part.now [] open_loads.old }
+    ensures rows { OnOk result (list.new.items ≡ list.old.items ++ rows_of_gates part.now [] part.now.gates) }
+    ensures taken { OnOk result (AreOpen part.now part.now.gates open_loads.new) }
 {
-    let gates = part.gates();
-    for at in 0..gates.len() {
-        add_gate(alloc, part, &gates[..at], &gates[at], list)?;
+    for gate in part.gates() {
+        let loaded = open_loads.take(gate.out());
+        add_gate(alloc, part, loaded, gate, list)?;
     }
     Ok(())
 }
 
-/// Adds the rows of a gate behind these.
+/// Adds the rows of a gate, with its load or without it.
 fn add_gate(
     alloc: Global,
     part: &Part,
-    earlier: &[Gate],
+    loaded: bool,
     gate: &Gate,
     list: &mut Vec<Row>,
 ) -> Result<(), NoMemory>
-    ensures { OnOk result (list.new.items ≡ list.old.items ++ rows_of_gate part.now earlier.now gate.now) }
+    ensures { OnOk result (list.new.items ≡ list.old.items ++ rows_with part.now loaded gate.now) }
 {
     let supplies = part.supplies();
     let (out, inputs) = (gate.out(), gate.inputs());
-    if has_load(part, earlier, gate) {
+    if loaded {
         add_load_rows(alloc, list, supplies.vdd, out, inputs)?;
         add_devices(alloc, list, inputs, supplies.gnd)
     } else {
@@ -125,23 +129,35 @@ fn add_gate(
 }
 
 /// Adds the rows of the loads that no gate has.
-fn add_loads(alloc: Global, part: &Part, list: &mut Vec<Row>) -> Result<(), NoMemory>
+fn add_loads(
+    alloc: Global,
+    part: &Part,
+    open_loads: &OpenLoads,
+    list: &mut Vec<Row>,
+) -> Result<(), NoMemory>
+    requires { AreOpen part.now part.now.gates open_loads.now }
     ensures { OnOk result (list.new.items ≡ list.old.items ++ flat_map (rows_of_load part.now) part.now.loads) }
 {
     for net in part.loads() {
-        add_load(alloc, part, *net, list)?;
+        add_load(alloc, part, open_loads.has(*net), *net, list)?;
     }
     Ok(())
 }
 
-/// Adds the rows of the load of the net, where no gate has it.
-fn add_load(alloc: Global, part: &Part, net: u32, list: &mut Vec<Row>) -> Result<(), NoMemory>
-    ensures { OnOk result (list.new.items ≡ list.old.items ++ rows_of_load part.now net) }
+/// Adds the rows of the load of the net, where it is open.
+fn add_load(
+    alloc: Global,
+    part: &Part,
+    is_open: bool,
+    net: u32,
+    list: &mut Vec<Row>,
+) -> Result<(), NoMemory>
+    ensures { OnOk result (list.new.items ≡ list.old.items ++ (if is_open then load_rows part.now.vdd net [] else [])) }
 {
-    if is_output(part.gates(), net) {
-        Ok(())
-    } else {
+    if is_open {
         add_load_rows(alloc, list, part.supplies().vdd, net, &[])
+    } else {
+        Ok(())
     }
 }
 

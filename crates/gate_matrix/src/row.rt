@@ -1,10 +1,13 @@
 // The rows of a gate matrix, and the tile that a row has in a column.
 
-ghost use Rattle.std.specs.Prelude.{◌≡◌};
+ghost use Rattle.std.specs.Prelude.{◌≡◌, IfOk};
 ghost use Rattle.gate_matrix.specs.Cells.{cell, is_gated, load_cell, gate_cell, wire_cell, device_cell, metal_cell};
 
 use crate::column::Column;
+use crate::gated::Gated;
 use micro_tiles::Basic;
+use rx_text::NoMemory;
+use std::alloc::Global;
 use std::marker::Model;
 
 /// The rows of a group, from the north: metal of the high supply, a load, and metal of the net that it pulls up; or metal, devices,
@@ -28,7 +31,7 @@ pub enum RowKind {
 pub struct Row {
     pub kind: RowKind,
     pub metal: u32,
-    pub gated: Vec<u32>,
+    pub gated: Gated,
     pub onward: bool,
 }
 
@@ -37,7 +40,28 @@ impl Model for Row {
 
     ghost Value = { MatrixRow };
 
-    ghost view = { λ r. record { kind = r.kind; metal = r.metal; gated = r.gated.items; onward = r.onward } };
+    ghost view = { λ r. record { kind = r.kind; metal = r.metal; gated = r.gated; onward = r.onward } };
+}
+
+impl Row {
+    /// A row of this kind, metal and group, whose metal goes on to the east or not.
+    pub fn new(
+        alloc: Global,
+        kind: RowKind,
+        metal: u32,
+        gated: &[u32],
+        onward: bool,
+    ) -> Result<Row, NoMemory>
+        ensures { IfOk result (λ row. row ≡ record { kind = kind; metal = metal; gated = gated.now; onward = onward }) }
+    {
+        let gated = Gated::new(alloc, gated)?;
+        Ok(Row {
+            kind,
+            metal,
+            gated,
+            onward,
+        })
+    }
 }
 
 /// The tile that the row has in the column, which is the last or not.
@@ -57,7 +81,7 @@ pub fn cell(row: &Row, column: Column, last: bool) -> Basic
 fn is_gated(row: &Row, net: u32) -> bool
     ensures { result ≡ is_gated row.now.gated net }
 {
-    row.gated.iter().any(|one| *one == net)
+    row.gated.has(net)
 }
 
 /// The tile in the column of loads.

@@ -1,7 +1,6 @@
 -- The labels of CIF texts bear names as their roles ask, and so do the pads that they make.
-use Rattle.std.proofs.Common.{◌≡◌, ◌⊎◌, inl, inr, if◌then◌else◌, ℕ, Bool, true, false, List, [], ◌∷◌, ◌++◌, All, Option, Some, None, is_some, refl, sym, ◌∙◌, ap, subst}
+use Rattle.std.proofs.Common.{◌≡◌, inl, inr, if◌then◌else◌, ℕ, Bool, true, false, List, [], ◌∷◌, ◌++◌, All, Option, Some, None, refl, sym, ◌∙◌, ap, subst}
 use Rattle.std.proofs.lemmas.List.Elements.{All-nil, All-cons}
-use Rattle.rx_text.specs.Role.{NamedRole, bears_name}
 use Rattle.rx_text.specs.declared.place.Place.{Place}
 use Rattle.geom.specs.declared.chip.Label.{Label}
 use Rattle.geom.specs.Squares.{BoxShape}
@@ -9,7 +8,7 @@ use Rattle.geom.specs.Rows.{Among}
 use Rattle.geom.specs.CifCommands.{CifCommand, Empty, Comment, Opens, Closes, CallsSymbol, SetsLayer, DrawsBox, DrawsPolygon, DrawsWire, Extension}
 use Rattle.geom.specs.CifLabels.{IsPadName}
 use Rattle.geom.specs.CifDrawings.{CifOpening, CifState, CommandLeads, blank_state, closed_state, drawn_in}
-use Rattle.geom.specs.CifRefusals.{DrawsFrom, IsCifText}
+use Rattle.geom.specs.CifRefusals.{DrawsFrom}
 use Rattle.geom.specs.CifRefusals.DrawsFrom.{end, command}
 use Rattle.switch_net.specs.declared.network.Pad.{Pad}
 use Rattle.nmos_model.specs.Lists.{Matched}

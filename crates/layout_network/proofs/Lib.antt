@@ -1,4 +1,7 @@
+mod FirstLabels
 mod FlatBoxes
 mod LabelNames
+mod Networks
 mod OneReading
 mod Read
+mod RefusalPlaces

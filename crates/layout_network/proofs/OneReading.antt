@@ -1,16 +1,14 @@
 -- Layouts have one reading.
-use Rattle.std.proofs.Common.{◌≡◌, ℕ, ◌≤◌, List, All, length, refl, sym, ◌∙◌, ap, subst}
+use Rattle.std.proofs.Common.{◌≡◌, ℕ, ◌≤◌, List, length, sym, ◌∙◌, ap, subst}
 use Rattle.rx_text.specs.declared.place.Place.{Place}
 use Rattle.geom.specs.declared.chip.Label.{Label}
 use Rattle.geom.specs.declared.cif_code.CifCode.{CifCode}
 use Rattle.geom.specs.Squares.{BoxShape, Covered, IsBox}
 use Rattle.geom.specs.Rows.{Among}
-use Rattle.geom.specs.CifLabels.{IsPadName}
 use Rattle.geom.specs.CifDrawings.{CifDrawing}
-use Rattle.geom.specs.CifRefusals.{CifRefusal, DrawsCif, FlatRefusal, IsCifText, stroke_boxes}
+use Rattle.geom.specs.CifRefusals.{DrawsCif, FlatRefusal, IsCifText, stroke_boxes}
 use Rattle.switch_net.specs.Circuit.{Circuit, IsSameNetwork}
 use Rattle.nmos_model.specs.Networks.{StandsFor}
-use Rattle.nmos_model.specs.Pads.{AreNamed}
 use Rattle.nmos_model.specs.Refusals.{IsRefused, NeverBoth, RefusedOnce, StandForOne}
 use Rattle.cif_read.specs.OneReading.{TextsHaveOneReading}
 use Rattle.layout_network.specs.Layouts.{DrawsFew, IsLayout, LayoutRefusal, most_boxes}

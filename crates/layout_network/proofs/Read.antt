@@ -1,12 +1,11 @@
 -- What the steps of a reading come to.
-use Rattle.std.proofs.Common.{◌≡◌, ℕ, ◌≤◌, List, [], length, refl, sym, ap, subst}
+use Rattle.std.proofs.Common.{◌≡◌, ℕ, ◌≤◌, List, [], length, sym, subst}
 use Rattle.geom.specs.declared.chip.Label.{Label}
 use Rattle.geom.specs.Squares.{BoxShape, Covered, IsBox}
 use Rattle.geom.specs.Rows.{Among}
 use Rattle.geom.specs.CifDrawings.{CifDrawing}
 use Rattle.geom.specs.CifRefusals.{IsCifText, NoStrokeFault, stroke_boxes}
 use Rattle.switch_net.specs.Circuit.{Circuit}
-use Rattle.switch_net.specs.Validity.{IsNetwork}
 use Rattle.nmos_model.specs.Networks.{StandsFor}
 use Rattle.nmos_model.specs.Refusals.{IsRefusedBy}
 use Rattle.nmos_model.specs.declared.refusal.ReadChipFault.{ReadChipFault}
@@ -30,11 +29,10 @@ draws_few text drawing boxes labels is drawn within named clear = record {
 
 -- they stand for a network
 pub layout_of : (text : List ℕ) (boxes : List BoxShape) (labels : List Label) (circuit : Circuit) → DrawsFew text boxes labels
-    → StandsFor (Covered boxes) labels circuit → IsNetwork circuit → IsLayout text circuit
-layout_of text boxes labels circuit few stands network = record {
+    → StandsFor (Covered boxes) labels circuit → IsLayout text circuit
+layout_of text boxes labels circuit few stands = record {
   drawn = record { boxes = boxes; labels = labels; draws = few.draws; stands = stands };
   few = few.few;
-  network = network;
 }
 
 -- faults

@@ -7,7 +7,6 @@ use Rattle.geom.specs.Squares.{BoxShape, Covered}
 use Rattle.geom.specs.CifDrawings.{CifDrawing}
 use Rattle.geom.specs.CifRefusals.{CifRefusal, DrawsCif, FlatRefusal, IsCifText}
 use Rattle.switch_net.specs.Circuit.{Circuit}
-use Rattle.switch_net.specs.Validity.{IsNetwork}
 use Rattle.nmos_model.specs.Networks.{StandsFor}
 use Rattle.nmos_model.specs.Refusals.{IsRefused}
 use Rattle.nmos_model.specs.declared.refusal.ExtractCode.{ExtractCode}
@@ -30,11 +29,10 @@ pub record DrawsFew (text : List ℕ) (boxes : List BoxShape) (labels : List Lab
   pub draws : DrawsCif text boxes labels
   pub few : length boxes ≤ most_boxes
 
--- The text is a layout that stands for this circuit, which is a network, and it draws no more boxes than are read.
+-- The text is a layout that stands for this circuit, and it draws no more boxes than are read.
 pub record IsLayout (text : List ℕ) (circuit : Circuit) : Type 0 where
   pub drawn : DrawsNetwork text circuit
   pub few : length drawn.boxes ≤ most_boxes
-  pub network : IsNetwork circuit
 
 -- The layout is refused with this code at this place: its text has one; else a command draws boxes too far away, or too many; else what it
 -- draws stands for no network.

@@ -1,6 +1,12 @@
 // What holds of all layouts. These functions run nothing: a caller has the law from the contract.
 
+ghost use Rattle.std.specs.Prelude.{ℕ, ◌+◌, ◌≤◌, List, length};
+ghost use Rattle.rx_text.specs.declared.place.Place.TheVariants.{Text};
+ghost use Rattle.switch_net.specs.Circuit.{Circuit};
+ghost use Rattle.switch_net.specs.Validity.{IsNetwork};
+ghost use Rattle.layout_network.specs.Layouts.{DrawsNetwork, LayoutRefusal};
 ghost use Rattle.layout_network.specs.OneReading.{LayoutsHaveOneReading};
+ghost use Rattle.layout_network.specs.declared.fault.LayoutCode.{LayoutCode};
 
 use crate::drawn::DrawnBoxes;
 use cif_read::texts_have_one_reading;
@@ -14,3 +20,13 @@ pub fn layouts_have_one_reading()
     texts_have_one_reading();
     drawings_are_networks_or_refused::<DrawnBoxes>();
 }
+
+/// What a layout stands for is a network.
+pub fn layouts_stand_for_networks()
+    ensures { (text : List ℕ) (circuit : Circuit) → DrawsNetwork text circuit → IsNetwork circuit }
+{}
+
+/// A refusal at a line stands in a line of its text, or in the one behind the last line feed.
+pub fn layout_refusals_stand_in_the_text()
+    ensures { (text : List ℕ) (code : LayoutCode) (line column : ℕ) → LayoutRefusal text code (Text line column) → line ≤ length text + 1 }
+{}

@@ -11,5 +11,7 @@ mod laws;
 mod reading;
 
 pub use fault::{LayoutCode, LayoutFault, ReadLayoutFault};
-pub use laws::layouts_have_one_reading;
+pub use laws::{
+    layout_refusals_stand_in_the_text, layouts_have_one_reading, layouts_stand_for_networks,
+};
 pub use reading::read_layout;

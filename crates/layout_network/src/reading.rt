@@ -25,11 +25,7 @@ pub fn read_layout(alloc: Global, text: &[u8]) -> Result<Network, ReadLayoutFaul
 {
     let flat = drawn_boxes(alloc, text)?;
     match extract(alloc, &flat.boxes, &flat.labels) {
-        Ok(network) => {
-            // Asked for what its contract tells: the network is valid.
-            let _pads = network.pads();
-            Ok(network)
-        }
+        Ok(network) => Ok(network),
         Err(fault) => Err(network_fault(fault)),
     }
 }

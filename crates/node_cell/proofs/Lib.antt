@@ -18,7 +18,6 @@ pub mod FootBorders
 pub mod CapSpots
 pub mod NodeBlocks
 pub mod AllBlocks
-pub mod MatrixTiles
 pub mod Tilings
 pub mod Fitting
 pub mod FormPlans

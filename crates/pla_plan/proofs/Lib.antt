@@ -1,7 +1,6 @@
 pub mod PlaneNets
 pub mod Heights
 pub mod Wires
-pub mod MatrixTiles
 pub mod PlaneTiles
 pub mod PlaneChains
 pub mod PlaneColumns

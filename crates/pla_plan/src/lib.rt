@@ -6,7 +6,6 @@ pub mod array_plan;
 pub mod chip;
 pub mod label_pads;
 pub mod laws;
-pub mod matrix;
 pub mod pla;
 pub mod plane_parts;
 pub mod plane_rows;

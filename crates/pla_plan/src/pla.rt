@@ -7,9 +7,9 @@ ghost use Rattle.pla_plan.specs.Planes.{plane_rows, plane_tile, planes_tile, pla
 ghost use Rattle.pla_plan.specs.Fits.{IsArray};
 
 use crate::laws::planes_are_plans;
-use crate::matrix::Matrix;
 use crate::plane_parts::{caps, left_matrix, lower_matrix, right_matrix};
 use crate::planes::Planes;
+use gate_matrix::Matrix;
 use gate_matrix::laws::parts_fill_rows;
 use micro_tiles::{Basic, Tile, transposed};
 use rx_text::NoMemory;

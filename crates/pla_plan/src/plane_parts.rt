@@ -4,12 +4,11 @@ ghost use Rattle.std.specs.Prelude.{◌≡◌, ◌<◌, ◌+◌, ◌^◌, ◌≤
 ghost use Rattle.std.specs.List.{range_with_len};
 ghost use Rattle.pla_plan.specs.Planes.{left_places, left_plane, right_places, right_plane, right_from, is_sum_column, cap_in, cap, lower_matrix};
 
-use crate::matrix::Matrix;
 use crate::plane_rows::{left_rows, right_rows};
 use crate::planes::Planes;
-use gate_matrix::Column;
 use gate_matrix::column::columns_of;
 use gate_matrix::part_rows::part_rows;
+use gate_matrix::{Column, Matrix};
 use micro_tiles::Basic;
 use rx_text::NoMemory;
 use std::alloc::Global;

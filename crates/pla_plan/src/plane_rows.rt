@@ -1,6 +1,7 @@
 // The rows of the two planes.
 
 ghost use Rattle.std.specs.Prelude.{◌≡◌, ◌+◌, ◌-◌, ◌≤◌, ◌<◌, ◌^◌, ◌++◌, ◌∷◌, [], length, map, All, IfOk, OnOk};
+ghost use Rattle.gate_matrix.specs.declared.row.RowKind.TheVariants.{Top};
 ghost use Rattle.gate_matrix.specs.Rows.{blank_row};
 ghost use Rattle.pla_plan.specs.Fits.{IsPlaneGate};
 ghost use Rattle.pla_plan.specs.Planes.{onward_row, open_gate_rows, left_rows, rows_of_terms, rows_of_sum, rows_of_sums};
@@ -16,13 +17,7 @@ use std::alloc::Global;
 fn onward_row(alloc: Global, kind: RowKind, metal: u32, gated: &[u32]) -> Result<Row, NoMemory>
     ensures { IfOk result (λ row. row ≡ onward_row kind metal gated.now) }
 {
-    let gated = Vec::from_slice(alloc, gated)?;
-    Ok(Row {
-        kind,
-        metal,
-        gated,
-        onward: true,
-    })
+    Row::new(alloc, kind, metal, gated, true)
 }
 
 /// A row that only carries the poly of the nets on.
@@ -30,6 +25,15 @@ fn blank_row(alloc: Global) -> Result<Row, NoMemory>
     ensures { IfOk result (λ row. row ≡ blank_row) }
 {
     closed_row(alloc, RowKind::Through, 0, &[])
+}
+
+/// Adds the metal of a supply, which goes on to the east, and a row below it.
+fn add_supply(alloc: Global, rows: &mut Vec<Row>, supply: u32) -> Result<(), NoMemory>
+    ensures { OnOk result (rows.new.items ≡ rows.old.items ++ onward_row Top supply [] ∷ blank_row ∷ []) }
+{
+    rows.push(onward_row(alloc, RowKind::Top, supply, &[])?)?;
+    rows.push(blank_row(alloc)?)?;
+    Ok(())
 }
 
 /// Adds a gate with its load, whose output goes on to the east. The high supply is net 0.
@@ -58,11 +62,9 @@ pub(crate) fn left_rows(alloc: Global, planes: &Planes) -> Result<Vec<Row>, NoMe
     let mut rows = Vec::new(alloc);
     rows.push(closed_row(alloc, RowKind::Start, 0, &[])?)?;
     rows.push(blank_row(alloc)?)?;
-    rows.push(onward_row(alloc, RowKind::Top, 0, &[])?)?;
-    rows.push(blank_row(alloc)?)?;
+    add_supply(alloc, &mut rows, 0)?;
     add_terms(alloc, &mut rows, gnd, planes.terms())?;
-    rows.push(onward_row(alloc, RowKind::Top, gnd, &[])?)?;
-    rows.push(blank_row(alloc)?)?;
+    add_supply(alloc, &mut rows, gnd)?;
     rows.push(blank_row(alloc)?)?;
     Ok(rows)
 }

@@ -70,6 +70,7 @@ module _ {Sink : Type 0} (sink : Change Sink) (text : List ℕ) where
         };
         compiled = of;
         sides = tt;
+        rules = tt;
       };
     }
 

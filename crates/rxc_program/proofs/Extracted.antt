@@ -1,9 +1,10 @@
 -- Layouts as inputs, and the text of their networks as output.
-use Rattle.std.proofs.Common.{◌≡◌, ℕ, ◌≤◌, List, All, refl, sym, ◌∙◌, ap}
+use Rattle.std.proofs.Common.{◌≡◌, ℕ, List, All, refl, sym, ◌∙◌, ap}
 use Rattle.rx_text.specs.declared.place.Place.{Place}
 use Rattle.geom.specs.CifLabels.{IsPadName}
 use Rattle.switch_net.specs.Circuit.{Circuit}
-use Rattle.net_text.specs.NetworkText.{IsNetworkText, network_text}
+use Rattle.switch_net.specs.Validity.{IsNetwork}
+use Rattle.net_text.specs.NetworkText.{network_text}
 use Rattle.layout_network.specs.Layouts.{IsLayout}
 use Rattle.layout_network.specs.OneReading.{LayoutsHaveOneReading}
 use Rattle.rxc_program.specs.Endings.{Change}
@@ -26,14 +27,14 @@ module _ (layouts : LayoutsHaveOneReading) (text : List ℕ) where
       let same = layouts.one_refusal text first.0 second.0 here there first.2 second.2 in
       (first.1 ∙ ap layout_code same.0 ∙ sym second.1, same.1)
 
-module _ {Sink : Type 0} (sink : Change Sink) (text : List ℕ) (circuit : Circuit) (layout : IsLayout text circuit)
+module _ {Sink : Type 0} (sink : Change Sink) (text : List ℕ) (circuit : Circuit) (layout : IsLayout text circuit) (network : IsNetwork circuit)
     (named : All (λ pad. IsPadName pad.name) circuit.pads) where
   extracted : IsExtracted text (network_text circuit)
   extracted = record {
     circuit = circuit;
     layout = layout;
     text_of = refl;
-    is_read_back = λ few. record { text_of = record { text = refl; named = named; few_nets = few }; network = layout.network };
+    is_read_back = λ few. record { text_of = record { text = refl; named = named; few_nets = few }; network = network };
   }
 
   -- the text of its network is written

@@ -1,16 +1,18 @@
 -- A file of a specification, behind a trace, is simulated to the bits of the languages.
-use Rattle.std.proofs.Common.{◌≡◌, ℕ, ◌==◌, not, Bool, List, [], ◌∷◌, None, length, refl, sym, subst, arith, eq-eqb}
+use Rattle.std.proofs.Common.{◌≡◌, ℕ, ◌==◌, not, Bool, List, [], ◌∷◌, None, drop, length, refl, sym, subst, arith, eq-eqb}
 use Rattle.std.proofs.lemmas.Bool.{le-ltb}
 use Rattle.std.proofs.lemmas.List.Elements.{recursion_from_All}
 use Rattle.std.specs.List.{AllByRecursion, position, prefix_len}
 use Rattle.rx_lang.specs.Specification.{Specification}
 use Rattle.switch_net.specs.Circuit.{Circuit}
-use Rattle.switch_sim.specs.TraceLines.{TraceLines, input_count}
-use Rattle.switch_sim.specs.TraceTexts.{IsTrace}
-use Rattle.rxc_program.proofs.DrivenJudged.{same_parts}
+use Rattle.switch_sim.specs.TraceLines.{input_count}
+use Rattle.switch_net.specs.SameRuns.{SameRunAlike}
+use Rattle.rxc_program.proofs.Chips.{ChipLaws}
+use Rattle.rxc_program.proofs.ChipTexts.{file_chip}
+use Rattle.rxc_program.proofs.DrivenJudged.{TraceLaws}
+use Rattle.rxc_program.proofs.OneOutput.{lines_of_parts}
 use Rattle.rxc_program.proofs.Telling.{tells_languages, width}
 use Rattle.switch_net.specs.Recognition.{IsWordOf}
-use Rattle.net_text.specs.NetworkText.{TextIsOfOneNetwork}
 use Rattle.rxc_program.specs.Simulating.{Drives, IsSimulated, simulating}
 use Rattle.rxc_program.specs.Telling.{DrivesFile, TellsLanguages}
 
@@ -25,17 +27,14 @@ none_wrong n vectors widths =
     let all = all_right n vectors (recursion_from_All _ vectors widths) in
     rw (le-ltb (prefix_len (λ vector. not (not (length vector == n))) vectors) (length vectors) (omega arith)) refl
 
-module _
-    (one_trace : (text : List ℕ) (some others : List (List Bool)) (place elsewhere : ℕ) → IsTrace text some place → IsTrace text others elsewhere
-    → (some ≡ others) × (place ≡ elsewhere))
-    (one_network : TextIsOfOneNetwork) (spec : Specification)
+module _ (traces : TraceLaws) (chips : ChipLaws) (alike : SameRunAlike) (spec : Specification)
     (text : List ℕ) (vectors : List (List Bool)) (is : DrivesFile text spec vectors) where
   abbrev circuit : Circuit
   circuit = is.file.circuit
 
   driven : Drives text vectors circuit
   driven = record {
-    parts = record { place = is.place; trace = is.trace; chip = is.file.stands };
+    parts = record { place = is.place; trace = is.trace; chip = file_chip is.kind (drop is.place text) circuit is.file.stands is.readable };
     widths = none_wrong (input_count circuit.pads) vectors
         (subst (λ n. IsWordOf n vectors) (sym (width spec circuit is.file.compiled vectors)) is.widths);
   }
@@ -43,9 +42,6 @@ module _
   pub file_tells : simulating.Accepts text × ((output : List ℕ) → IsSimulated text output → TellsLanguages spec vectors output)
   file_tells = (
     (vectors, circuit, driven),
-    λ output is_output.
-        let same = same_parts one_trace one_network text vectors is_output.vectors circuit is_output.circuit driven.parts is_output.drives.parts in
-        let shown : TraceLines circuit vectors output =
-        subst (λ c. TraceLines c vectors output) (sym same.1) (subst (λ v. TraceLines is_output.circuit v output) (sym same.0) is_output.shown) in
-        tells_languages spec circuit is.file.compiled vectors output driven.widths shown,
+    λ output shown. tells_languages spec circuit is.file.compiled vectors output driven.widths
+        (lines_of_parts traces chips alike text vectors circuit driven.parts output shown),
   )

@@ -1,24 +1,27 @@
 -- Every input is accepted by a command, or refused by it for one reason.
-use Rattle.std.proofs.Common.{◌≡◌, ◌⊎◌, inl, inr, ⊎_elim, ℕ, ◌<◌, ◌≤◌, List, length, true, false, refl, sym, ◌∙◌, ap, arith}
-use Rattle.std.proofs.lemmas.Bool.{cases_lt}
+use Rattle.std.proofs.Common.{◌≡◌, ◌⊎◌, inl, inr, ⊎_elim, ℕ, ◌<◌, ◌≤◌, Bool, List, drop, length, true, false, refl, sym, ◌∙◌, ap, arith}
+use Rattle.std.proofs.lemmas.Bool.{cases_Bool, cases_lt}
 use Rattle.rx_lang.specs.Specification.{Specification}
 use Rattle.rx_syntax.specs.Accepted.{Accepted}
 use Rattle.rx_syntax.specs.SpecRefusal.{SpecRefusal}
 use Rattle.rx_syntax.specs.declared.spec_code.SpecCode.{SpecCode}
 use Rattle.rx_text.specs.declared.place.Place.{Place}
+use Rattle.switch_sim.specs.TraceTexts.{IsTrace}
 use Rattle.layout_network.specs.OneReading.{LayoutsHaveOneReading}
 use Rattle.rx_text.specs.declared.place.Place.TheVariants.{Whole}
-use Rattle.rxc_program.proofs.DrivenJudged.{TraceLaws, NetLaws, driven_or_broken, driven_not_broken, one_break}
+use Rattle.rxc_program.proofs.Chips.{ChipLaws, ChipOrNot}
+use Rattle.rxc_program.proofs.DrivenJudged.{TraceLaws, driven_or_broken, driven_not_broken, one_break}
 use Rattle.rxc_program.proofs.Endings.{IsReading}
 use Rattle.rxc_program.proofs.Extracted.{layouts_apart, one_layout_break}
-use Rattle.rxc_program.specs.Behaviour.{Behaviour, InputsAreJudged, IsAcceptedInput, IsDecided, IsRefusedInput, IsTooLong, most_input_bytes}
+use Rattle.rxc_program.specs.Behaviour.{Behaviour, InputsAreJudged, IsDecided, IsRefusedInput, IsTooLong, most_input_bytes}
 use Rattle.rxc_program.specs.Codes.{spec_code}
 use Rattle.rxc_program.specs.Commands.{InputsAreDecided, behaviour}
 use Rattle.rxc_program.specs.Compiling.{compiling}
 use Rattle.rxc_program.specs.Extracting.{extracting}
 use Rattle.rxc_program.specs.Files.{FileKind, most_leaves, tree_file}
 use Rattle.rxc_program.specs.Reporting.{demonstrating, reporting}
-use Rattle.rxc_program.specs.Simulating.{simulating}
+use Rattle.rxc_program.specs.Chips.{begins_network}
+use Rattle.rxc_program.specs.Simulating.{HasLayout, simulating}
 use Rattle.rxc_program.specs.declared.status.Code.{Code}
 use Rattle.rxc_program.specs.declared.status.Code.TheVariants.{I1}
 use Rattle.rxc_program.specs.declared.words.Command.{Command}
@@ -112,23 +115,33 @@ module _
       input_decided reporting reporting_judged text
       (⊎_elim (λ a. inl a) (λ r. inr (spec_code r.0, r.1, (r.0, refl, r.2))) (either text (most_leaves tree_file)))
 
-  module _ (traces : TraceLaws) (nets : NetLaws) (layouts : LayoutsHaveOneReading) where
+  module _ (traces : TraceLaws) (chips : ChipLaws) (layouts : LayoutsHaveOneReading) where
     simulating_judged : TextsAreJudged simulating
     simulating_judged = record {
       reads = refl;
-      never_both = λ text code place accepted broken. driven_not_broken traces nets text accepted.0 accepted.1 code place accepted.2 broken;
-      one_reason = λ text one other here there first second. one_break traces nets text one other here there first second;
+      never_both = λ text code place accepted broken. driven_not_broken traces chips text accepted.0 accepted.1 code place accepted.2 broken;
+      one_reason = λ text one other here there first second. one_break traces chips text one other here there first second;
     }
 
-    simulating_either : (text : List ℕ) → IsDecided simulating text
-    simulating_either text = input_decided simulating simulating_judged text (driven_or_broken traces nets text)
+    -- what is behind a trace is a chip or refused as one, where it is read as no layout
+    network_behind : (text : List ℕ) → (HasLayout text → ⊥) → (vectors : List (List Bool)) (behind : ℕ) → IsTrace text vectors behind
+        → ChipOrNot (drop behind text)
+    network_behind text none vectors behind trace =
+        elim (cases_Bool (begins_network (drop behind text))) [
+          | inl network ↦ chips.either (drop behind text) network
+          | inr layout ↦ absurd (none (vectors, behind, trace, layout))
+        ]
+
+    simulating_either : (text : List ℕ) → (HasLayout text → ⊥) → IsDecided simulating text
+    simulating_either text none =
+        input_decided simulating simulating_judged text (driven_or_broken traces text (network_behind text none))
 
     pub decided : (command : Command) → InputsAreDecided command
     decided Net text none = compiling_either _ text
     decided Pla text none = compiling_either _ text
     decided Tree text none = compiling_either _ text
     decided Extract text none = absurd (none tt)
-    decided Sim text none = simulating_either text
+    decided Sim text none = simulating_either text none
     decided Report text none = reporting_either text
     decided (Demo start leaves) text none = demonstrating_either start leaves text
 

@@ -3,7 +3,11 @@ pub mod Names
 pub mod NamedWords
 pub mod DemoWords
 pub mod Endings
+pub mod Chips
+pub mod ChipTexts
+pub mod SameLines
 pub mod DrivenJudged
+pub mod OneOutput
 pub mod Extracted
 pub mod Judged
 pub mod LowLines

@@ -28,11 +28,11 @@ use Rattle.rxc_program.specs.Telling.{Tells, TellsWord, numbered_lines, TellsLan
 abbrev with_input : Role → ℕ → ℕ
 with_input role n = cond (is_input role) (1 + n) n
 
-abbrev inputs_in : List NamedRole → ℕ
+abbrev pub inputs_in : List NamedRole → ℕ
 inputs_in [] = 0
 inputs_in (name ∷ names) = with_input name.role (inputs_in names)
 
-inputs_counted : (pads : List Pad) → inputs_in (map (λ pad. pad.name) pads) ≡ input_count pads
+pub inputs_counted : (pads : List Pad) → inputs_in (map (λ pad. pad.name) pads) ≡ input_count pads
 inputs_counted pads = is_count_by (λ ps. inputs_in (map (λ pad. pad.name) ps)) (λ pad. is_input pad.name.role) refl (λ pad ps. refl) pads
 
 no_inputs : (outputs : List (List ℕ)) → inputs_in (map (named_pad Output) outputs) ≡ 0

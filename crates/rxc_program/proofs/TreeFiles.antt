@@ -24,7 +24,8 @@ use Rattle.rx_lang.specs.Tables.{IsSpecification, Tables, specification}
 use Rattle.star_normal.specs.Tables.{TreeTable}
 use Rattle.nmos_model.specs.Alike.{CoverAlike, StandAlike}
 use Rattle.nmos_model.specs.Networks.{StandsFor}
-use Rattle.stick_grid.specs.Plans.{Covers}
+use Rattle.stick_grid.specs.Plans.{IsPlan, Covers}
+use Rattle.tile_rules.specs.KeptRules.{KeepsRules, TilesKeepRules}
 use Rattle.block_grid.specs.Sheets.{Sheet}
 use Rattle.cell_network.specs.Parts.{counts_of}
 use Rattle.node_cell.specs.Blocks.{block_side}
@@ -35,6 +36,7 @@ use Rattle.tree_chip.specs.TreePlans.{tree_labels, tree_plan}
 use Rattle.rxc_program.specs.Files.{DrawsBox, HasTreeSides, IsFileOf, tree_file}
 use Rattle.rxc_program.specs.Measuring.{IsLayoutOf}
 use Rattle.report_text.specs.Sizes.{block_width, blocks, leaves, tree_area_bound, tree_side_bound, wires}
+use Rattle.rxc_program.proofs.ChipTexts.{chip_begins}
 use Rattle.rxc_program.proofs.BoxSides.{height_within, width_within}
 use Rattle.rxc_program.proofs.Levels.{few_lines}
 use Rattle.rxc_program.proofs.Members.{all_of}
@@ -78,6 +80,7 @@ module _ (sheet : Sheet) (tree : TreeTable) (tables : Tables) (spec_is : IsSpeci
     → width ≤ tree_side_bound spec level → height ≤ tree_side_bound spec level → width * height ≤ tree_area_bound spec)
     (level : ℕ) (is_level : IsLevel (blocks (specification tables)) level) (low_level : level ≤ 7) (some : 1 ≤ leaves (specification tables))
     (rows : sheet.rows ≤ side_bound level) (cols : sheet.cols ≤ side_bound level)
+    (plan_is : IsPlan (tree_plan sheet tree tables))
     (shows : DrawsRecogniser (specification tables) (Covers (tree_plan sheet tree tables)) (tree_labels sheet tree tables)) where
   abbrev side : ℕ
   side = block_side (counts_of tree tables)
@@ -99,7 +102,8 @@ module _ (sheet : Sheet) (tree : TreeTable) (tables : Tables) (spec_is : IsSpeci
       (squares : (layer : Layer) (x y : ℤ) → ChipCovers chip layer x y ↔ Covers (tree_plan sheet tree tables) layer x y)
       (few : length chip.kinds < 2 ^ 16) (within : KindsAreBlocks (tree_block_width tree tables) chip)
       (labels : chip.labels ≡ tree_labels sheet tree tables)
-      (alike : StandAlike (Covers (tree_plan sheet tree tables)) (Covered (chip_boxes chip))) where
+      (alike : StandAlike (Covers (tree_plan sheet tree tables)) (Covered (chip_boxes chip)))
+      (rules : TilesKeepRules (Covered (chip_boxes chip))) where
     cover_alike : CoverAlike (Covers (tree_plan sheet tree tables)) (Covered (chip_boxes chip))
     cover_alike layer x y = (
       λ h. (written_boxes_cover chip layer x y).0 ((squares layer x y).1 h),
@@ -212,12 +216,19 @@ module _ (sheet : Sheet) (tree : TreeTable) (tables : Tables) (spec_is : IsSpeci
           small = areas (specification tables) level r.width r.height is_level some (omega (arith, l, s, o)) narrow low;
         }
 
+    keeps : KeepsRules (Covered (chip_boxes chip)) chip.labels
+    keeps = rules (tree_plan sheet tree tables) chip.labels plan_is (λ layer x y. ((cover_alike layer x y).1, (cover_alike layer x y).0))
+
     tree_file_of : IsFileOf tree_file (specification tables) (chip_text chip)
     tree_file_of = record {
       circuit = shows.circuit;
-      stands = record { boxes = chip_boxes chip; labels = chip.labels; draws = texts.drawn chip writable; stands = stands };
+      stands = record {
+        begins = chip_begins chip;
+        draws = record { boxes = chip_boxes chip; labels = chip.labels; draws = texts.drawn chip writable; stands = stands };
+      };
       compiled = record { pads = shows.recogniser.pads; recognises = shows.recogniser.recognises; sure = shows.recogniser.sure };
       sides = sides_of box.0 box.1;
+      rules = record { boxes = chip_boxes chip; labels = chip.labels; draws = texts.drawn chip writable; keeps = keeps };
     }
 
     -- ---- the chip can be measured
@@ -261,6 +272,7 @@ module _ (sheet : Sheet) (tree : TreeTable) (tables : Tables) (spec_is : IsSpeci
 
   -- the chip, if it was made, is a layout of the specification
   pub tree_layouts : ((chip : ChipShape) → StandAlike (Covers (tree_plan sheet tree tables)) (Covered (chip_boxes chip)))
+      → ((chip : ChipShape) → TilesKeepRules (Covered (chip_boxes chip)))
       → {E : Type 0} (result : Result ChipShape E)
       → IfOk result (λ chip. IsTreeChip sheet tree tables chip)
       → IfOk result (λ chip. (layer : Layer) (x y : ℤ) → ChipCovers chip layer x y ↔ Covers (tree_plan sheet tree tables) layer x y)
@@ -268,5 +280,5 @@ module _ (sheet : Sheet) (tree : TreeTable) (tables : Tables) (spec_is : IsSpeci
       → IfOk result (KindsAreBlocks (tree_block_width tree tables))
       → IfOk result (λ chip. chip.labels ≡ tree_labels sheet tree tables)
       → IfOk result (IsLayoutOf (specification tables))
-  tree_layouts alike (Err refused) made squares few within labels = tt
-  tree_layouts alike (Ok chip) made squares few within labels = layout_of chip made squares few within labels (alike chip)
+  tree_layouts alike rules (Err refused) made squares few within labels = tt
+  tree_layouts alike rules (Ok chip) made squares few within labels = layout_of chip made squares few within labels (alike chip) (rules chip)

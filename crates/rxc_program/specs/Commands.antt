@@ -5,7 +5,7 @@ use Rattle.rxc_program.specs.Compiling.{compiling}
 use Rattle.rxc_program.specs.Extracting.{extracting}
 use Rattle.rxc_program.specs.Files.{FileKind, network_file, pla_file, tree_file}
 use Rattle.rxc_program.specs.Reporting.{demonstrating, reporting}
-use Rattle.rxc_program.specs.Simulating.{simulating}
+use Rattle.rxc_program.specs.Simulating.{HasLayout, simulating}
 use Rattle.rxc_program.specs.declared.words.Command.{Command}
 use Rattle.rxc_program.specs.declared.words.Command.TheVariants.{Net, Pla, Tree, Extract, Sim, Report, Demo}
 
@@ -28,6 +28,7 @@ behaviour (Demo start leaves) = demonstrating start leaves
 -- the command reads a layout in the text
 abbrev pub HoldsLayout : Command → List ℕ → Type 0
 HoldsLayout Extract text = ⊤
+HoldsLayout Sim text = HasLayout text
 HoldsLayout other text = ⊥
 
 -- Every input in which the command reads no layout is accepted or refused.

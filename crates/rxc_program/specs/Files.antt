@@ -1,8 +1,8 @@
 -- Files of networks that recognise the languages of a specification.
-use Rattle.std.specs.Prelude.{◌≡◌, ⊤, ℕ, ◌*◌, ◌≤◌, List, length}
+use Rattle.std.specs.Prelude.{◌≡◌, ⊤, ℕ, ◌*◌, ◌≤◌, false, List, length}
 use Rattle.geom.specs.declared.chip.Label.{Label}
 use Rattle.geom.specs.declared.chip.Rect.{Rect}
-use Rattle.geom.specs.Squares.{BoxShape}
+use Rattle.geom.specs.Squares.{BoxShape, Covered}
 use Rattle.geom.specs.Chips.{IsBoxOf}
 use Rattle.geom.specs.CifRefusals.{DrawsCif}
 use Rattle.rx_lang.specs.Specification.{Specification, Language}
@@ -11,8 +11,10 @@ use Rattle.rx_lang.specs.Squares.{IsLevel}
 use Rattle.switch_net.specs.Circuit.{Circuit}
 use Rattle.switch_net.specs.Recognition.{HasPads, Recognises, ShowsSurely}
 use Rattle.net_text.specs.NetworkText.{IsNetworkText}
+use Rattle.tile_rules.specs.KeptRules.{KeepsRules}
 use Rattle.layout_network.specs.Layouts.{DrawsNetwork}
 use Rattle.report_text.specs.Sizes.{blocks, tree_area_bound, tree_side_bound}
+use Rattle.rxc_program.specs.Chips.{begins_network}
 
 -- the kinds of files that are written for a specification
 pub data FileKind : Type 0 where
@@ -28,11 +30,16 @@ most_leaves tree_file = 4096
 
 -- ---- what a file stands for
 
+-- The file does not begin as a network text does, and is a CIF text whose squares stand for this circuit.
+pub record IsLayoutFile (file : List ℕ) (circuit : Circuit) : Type 0 where
+  pub begins : begins_network file ≡ false
+  pub draws : DrawsNetwork file circuit
+
 -- The file is of this kind, and stands for this circuit.
 abbrev pub FileStandsFor : FileKind → List ℕ → Circuit → Type 0
 FileStandsFor network_file file circuit = IsNetworkText file circuit
-FileStandsFor pla_file file circuit = DrawsNetwork file circuit
-FileStandsFor tree_file file circuit = DrawsNetwork file circuit
+FileStandsFor pla_file file circuit = IsLayoutFile file circuit
+FileStandsFor tree_file file circuit = IsLayoutFile file circuit
 
 -- A network of the specification: it has the pads of the specification, and from all charges each output is high after t
 -- clocks exactly where the first t input vectors lie in its language; so also in a ternary run, in which no output is unknown.
@@ -77,10 +84,26 @@ HasSides network_file spec file = ⊤
 HasSides pla_file spec file = HasArraySides spec file
 HasSides tree_file spec file = HasTreeSides spec file
 
+-- ---- that it keeps the lambda rules
+
+-- The file is a CIF text, and what it draws with its labels breaks no rule: its list of findings is the empty one.
+pub record DrawsByRules (file : List ℕ) : Type 0 where
+  pub boxes : List BoxShape
+  pub labels : List Label
+  pub draws : DrawsCif file boxes labels
+  pub keeps : KeepsRules (Covered boxes) labels
+
+-- A layout keeps the rules.
+abbrev pub FollowsRules : FileKind → List ℕ → Type 0
+FollowsRules network_file file = ⊤
+FollowsRules pla_file file = DrawsByRules file
+FollowsRules tree_file file = DrawsByRules file
+
 -- The file is of this kind, and stands for a network of the specification; the area of a PLA file is that of its formula, and the
--- sides and the area of a tree file are within their bounds.
+-- sides and the area of a tree file are within their bounds. What a layout draws keeps the lambda rules.
 pub record IsFileOf (kind : FileKind) (spec : Specification) (file : List ℕ) : Type 0 where
   pub circuit : Circuit
   pub stands : FileStandsFor kind file circuit
   pub compiled : IsNetworkOf spec circuit
   pub sides : HasSides kind spec file
+  pub rules : FollowsRules kind file

@@ -6,6 +6,7 @@ pub mod LayoutCodes
 pub mod StatusText
 pub mod Behaviour
 pub mod Endings
+pub mod Chips
 pub mod Files
 pub mod Compiling
 pub mod Extracting

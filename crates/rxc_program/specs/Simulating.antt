@@ -3,27 +3,15 @@ use Rattle.std.specs.Prelude.{◌≡◌, ◌⊎◌, ℕ, ◌+◌, Bool, true, fa
 use Rattle.rx_text.specs.declared.place.Place.{Place}
 use Rattle.rx_text.specs.declared.place.Place.TheVariants.{Text, Square, Whole}
 use Rattle.switch_net.specs.Circuit.{Circuit}
-use Rattle.net_text.specs.NetRefusals.{NetRefusal}
-use Rattle.net_text.specs.NetworkText.{IsNetworkText}
-use Rattle.net_text.specs.declared.net_fault.NetCode.{NetCode}
 use Rattle.switch_sim.specs.TraceTexts.{IsTrace, TraceRefusal}
 use Rattle.switch_sim.specs.TraceLines.{TraceLines, first_wrong}
 use Rattle.switch_sim.specs.declared.trace_code.TraceCode.{TraceCode}
 use Rattle.rxc_program.specs.Behaviour.{Behaviour}
-use Rattle.rxc_program.specs.Codes.{net_code, trace_code}
+use Rattle.rxc_program.specs.Chips.{IsChip, IsNoChip, begins_network}
+use Rattle.rxc_program.specs.Codes.{trace_code}
 use Rattle.rxc_program.specs.declared.status.Code.{Code}
 use Rattle.rxc_program.specs.declared.status.Code.TheVariants.{V2}
 use Rattle.rxc_program.specs.declared.status.Status.TheVariants.{Done}
-
--- ---- chips
-
--- The text of a chip stands for this circuit: it is a network text.
-abbrev pub IsChip : List ℕ → Circuit → Type 0
-IsChip text circuit = IsNetworkText text circuit
-
--- The text is no chip's: it is no network text.
-abbrev pub IsNoChip : List ℕ → Code → Place → Type 0
-IsNoChip text code place = (named : NetCode) × (code ≡ net_code named) × NetRefusal text named place
 
 -- ---- inputs
 
@@ -42,6 +30,10 @@ pub record IsDrivenBy (text : List ℕ) (vectors : List (List Bool)) (circuit : 
   pub place : ℕ
   pub trace : IsTrace text vectors place
   pub chip : IsChip (drop place text) circuit
+
+-- The chip of the text is read as a layout.
+abbrev pub HasLayout : List ℕ → Type 0
+HasLayout text = (vectors : List (List Bool)) × (behind : ℕ) × IsTrace text vectors behind × (begins_network (drop behind text) ≡ false)
 
 -- Such a text in which every vector has one bit for each input pad.
 pub record Drives (text : List ℕ) (vectors : List (List Bool)) (circuit : Circuit) : Type 0 where

@@ -1,13 +1,17 @@
 -- What `sim` shows of a compiled network: the bits of the languages.
-use Rattle.std.specs.Prelude.{◌≡◌, ◌⊎◌, ℕ, suc, Bool, List, [], ◌∷◌, ◌++◌, Some, length, take, drop, slice_get}
+use Rattle.std.specs.Prelude.{◌≡◌, ◌⊎◌, ⊤, ℕ, suc, ◌≤◌, Bool, List, [], ◌∷◌, ◌++◌, Some, length, take, drop, slice_get}
 use Rattle.std.specs.Fmt.{decimal}
+use Rattle.geom.specs.declared.chip.Label.{Label}
+use Rattle.geom.specs.Squares.{BoxShape}
+use Rattle.geom.specs.CifRefusals.{DrawsCif}
+use Rattle.layout_network.specs.Layouts.{most_boxes}
 use Rattle.rx_lang.specs.Specification.{Specification, Language}
 use Rattle.rx_syntax.specs.Accepted.{Accepted}
 use Rattle.switch_net.specs.Circuit.{Circuit}
 use Rattle.switch_net.specs.Recognition.{IsWordOf}
 use Rattle.switch_sim.specs.TraceLines.{TraceLines}
 use Rattle.switch_sim.specs.TraceTexts.{IsTrace}
-use Rattle.rxc_program.specs.Files.{IsFileOf, IsNetworkOf, most_leaves, network_file}
+use Rattle.rxc_program.specs.Files.{FileKind, IsFileOf, IsNetworkOf, most_leaves, network_file, pla_file, tree_file}
 use Rattle.rxc_program.specs.Simulating.{Drives, IsSimulated, simulating}
 
 -- The byte is `1` where this holds, and `0` where it does not.
@@ -37,14 +41,26 @@ NetworksShowTheirLanguages =
     (spec : Specification) (text output : List ℕ) (vectors : List (List Bool)) (circuit : Circuit)
     → IsNetworkOf spec circuit → Drives text vectors circuit → TraceLines circuit vectors output → TellsLanguages spec vectors output
 
--- The text is a trace of these vectors, each with one bit for each line, and behind it a file of this accepted specification that `sim`
--- reads: a network file.
+-- the text draws no more boxes than are read
+abbrev pub HasFewBoxes : List ℕ → Type 0
+HasFewBoxes file = (boxes : List BoxShape) (labels : List Label) → DrawsCif file boxes labels → length boxes ≤ most_boxes
+
+-- `sim` reads a file of this kind whatever its size, or where it draws no more boxes than are read.
+abbrev pub IsReadable : FileKind → List ℕ → Type 0
+IsReadable network_file file = ⊤
+IsReadable pla_file file = HasFewBoxes file
+IsReadable tree_file file = HasFewBoxes file
+
+-- The text is a trace of these vectors, each with one bit for each line, and behind it a file of this accepted specification, as `net`,
+-- `pla` and `tree` write them, that `sim` reads.
 pub record DrivesFile (text : List ℕ) (spec : Specification) (vectors : List (List Bool)) : Type 0 where
+  pub kind : FileKind
   pub source : List ℕ
-  pub accepted : Accepted source (most_leaves network_file) spec
+  pub accepted : Accepted source (most_leaves kind) spec
   pub place : ℕ
   pub trace : IsTrace text vectors place
-  pub file : IsFileOf network_file spec (drop place text)
+  pub file : IsFileOf kind spec (drop place text)
+  pub readable : IsReadable kind (drop place text)
   pub widths : IsWordOf (length spec.lines) vectors
 
 -- `sim` accepts such a text, and its output tells the languages.

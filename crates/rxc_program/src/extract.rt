@@ -11,7 +11,9 @@ ghost use Rattle.rxc_program.specs.Serving.{AnswersText, StopsBy};
 use crate::input::read_input;
 use crate::net::write_network;
 use crate::status::{Code, Status};
-use layout_network::{LayoutCode, ReadLayoutFault, layouts_have_one_reading, read_layout};
+use layout_network::{
+    LayoutCode, ReadLayoutFault, layouts_have_one_reading, layouts_stand_for_networks, read_layout,
+};
 use rx_io::{Sink, Source};
 use std::alloc::Global;
 use switch_net::Network;
@@ -33,6 +35,7 @@ fn answer<O: Sink>(alloc: Global, text: &[u8], out: &mut O) -> Status
     ensures count { O.faults out.old ≤ O.faults out.new }
 {
     layouts_have_one_reading();
+    layouts_stand_for_networks();
     match layout_of(alloc, text) {
         Ok(network) => write_network(&network, out),
         Err(status) => status,

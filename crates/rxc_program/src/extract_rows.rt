@@ -3,19 +3,19 @@ use crate::rows::{End, Input, NOTHING, Output, Row};
 use crate::status::Code;
 
 /// Five squares of metal apart from each other, with the pads that each network has.
-const PADS: &[u8] =
+pub(crate) const PADS: &[u8] =
     b"L NM; B 800 800 20400 400; 94 VDD 20000 0 NM; B 800 800 22400 400; 94 GND 22000 0 NM; \
     B 800 800 24400 400; 94 PHI1 24000 0 NM; B 800 800 26400 400; 94 PHI2 26000 0 NM; \
     B 800 800 28400 400; 94 RESET 28000 0 NM; ";
 
 /// A transistor from the supply to ground.
-const TRANSISTOR: &[u8] =
+pub(crate) const TRANSISTOR: &[u8] =
     b"L ND; B 800 4000 400 2000; L NP; B 1600 400 400 2000; 94 GND 0 0 ND; 94 VDD 0 3800 ND; \
     94 IN:x 1000 1800 NP; L NM; B 800 800 4400 400; 94 PHI1 4000 0 NM; B 800 800 6400 400; \
     94 PHI2 6000 0 NM; B 800 800 8400 400; 94 RESET 8000 0 NM; E";
 
 /// Seven definitions that call the one before ten times: 10,000,000 boxes.
-const TOO_MANY: &[u8] = b"DS 1 100 1; L NM; B 8 8 4 4; DF;\n\
+pub(crate) const TOO_MANY: &[u8] = b"DS 1 100 1; L NM; B 8 8 4 4; DF;\n\
     DS 2; C 1; C 1; C 1; C 1; C 1; C 1; C 1; C 1; C 1; C 1; DF;\n\
     DS 3; C 2; C 2; C 2; C 2; C 2; C 2; C 2; C 2; C 2; C 2; DF;\n\
     DS 4; C 3; C 3; C 3; C 3; C 3; C 3; C 3; C 3; C 3; C 3; DF;\n\

@@ -18,6 +18,7 @@ mod laws;
 mod log;
 mod net;
 mod pla;
+mod plain_run;
 mod report;
 mod sim;
 mod status;
@@ -37,9 +38,13 @@ mod extract_rows;
 #[cfg(test)]
 mod pla_rows;
 #[cfg(test)]
+mod process_rows;
+#[cfg(test)]
 mod report_rows;
 #[cfg(test)]
 mod rows;
+#[cfg(test)]
+mod sim_layout_rows;
 #[cfg(test)]
 mod sim_rows;
 #[cfg(test)]

@@ -29,6 +29,7 @@ use rx_syntax::laws::{accepted_names_are_names, accepted_specifications_have_few
 use rx_text::NoMemory;
 use star_normal::normalize;
 use std::alloc::Global;
+use tile_rules::laws::tiles_keep_rules;
 
 /// The most symbols in the expressions of a specification.
 const MOST_LEAVES: u32 = 256;
@@ -86,6 +87,7 @@ fn array_chip(alloc: Global, spec: &Spec) -> Result<Chip, NoMemory>
     tiles_keep_inside();
     chip_texts_draw();
     equal_drawings_are_alike::<DrawnArray, WrittenChip>();
+    tiles_keep_rules::<WrittenChip>();
     let tree = normalize(alloc, spec)?;
     let nfa = positions(alloc, &tree)?;
     let array = plan(alloc, &nfa, spec)?;

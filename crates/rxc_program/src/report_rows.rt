@@ -46,6 +46,48 @@ const DEMO_2000_REPORT: &[u8] =
     tree side bound 1907080\ntree width 672658\ntree height 931350\ntree area 626480028300\n\
     tree area bound 46242201600000\n";
 
+/// A command that draws, its input, and the least and the greatest width and height in lambda of what it draws.
+pub(crate) struct DrawnSides {
+    pub(crate) word: &'static [u8],
+    pub(crate) input: Input,
+    pub(crate) least: (i64, i64),
+    pub(crate) greatest: (i64, i64),
+}
+
+/// The sides that the reports above tell, and the bound of a tree of 64 symbols.
+pub(crate) const DRAWN_SIDES: &[DrawnSides] = &[
+    DrawnSides {
+        word: b"tree",
+        input: Input::Text(ONE),
+        least: (3780, 1498),
+        greatest: (3780, 1498),
+    },
+    DrawnSides {
+        word: b"tree",
+        input: Input::Text(TWO),
+        least: (12614, 12586),
+        greatest: (12614, 12586),
+    },
+    DrawnSides {
+        word: b"tree",
+        input: Input::Repeated(SYMBOLS, b" a", 64, b" !z;\n"),
+        least: (14, 14),
+        greatest: (273_420, 273_420),
+    },
+    DrawnSides {
+        word: b"pla",
+        input: Input::Text(ONE),
+        least: (644, 924),
+        greatest: (644, 924),
+    },
+    DrawnSides {
+        word: b"pla",
+        input: Input::Text(TWO),
+        least: (980, 1792),
+        greatest: (980, 1792),
+    },
+];
+
 /// Runs of `report` and of `demo`.
 pub(crate) const REPORT_ROWS: &[Row] = &[
     Row {
@@ -264,6 +306,18 @@ pub(crate) const LARGE_REPORT_ROWS: &[Row] = &[
         input: Input::Repeated(SYMBOLS, b" a", 1024, b" !z;"),
         end: End::Done,
         output: Output::Is(MANY_REPORT),
+        log: b"",
+    },
+    // The greatest array.
+    Row {
+        words: &[b"report"],
+        input: Input::Repeated(SYMBOLS, b" a", 256, b" !z;"),
+        end: End::Done,
+        output: Output::Holds(
+            b"leaves 256\n",
+            b"\nterms 257\npla rows 5421\npla columns 2596\npla area 2758291536\n",
+            b"\ntree area bound 832359628800\n",
+        ),
         log: b"",
     },
     Row {

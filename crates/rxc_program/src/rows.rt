@@ -1,4 +1,5 @@
 //! Runs of the program, as data: a further run is a further row.
+use crate::extract_rows::TRANSISTOR;
 use crate::sim_rows::INVERTER;
 use crate::status::{Code, Status};
 use rx_text::Place;
@@ -22,8 +23,8 @@ pub(crate) enum Input {
     Behind(&'static [u8], &'static [u8]),
     /// A front, a piece so many times, and a rest.
     Repeated(&'static [u8], &'static [u8], u32, &'static [u8]),
-    /// A trace, and the network that `net` writes for the specification.
-    Compiled(&'static [u8], &'static [u8]),
+    /// A trace, and what the word writes for the specification.
+    Compiled(&'static [u8], &'static [u8], &'static [u8]),
 }
 
 /// How a run ends.
@@ -458,6 +459,7 @@ pub(crate) const FRONTS: &[(&[u8], Input, usize)] = &[
     (b"tree", Input::Text(ONE), 2),
     (b"report", Input::Text(ONE), 2),
     (b"sim", Input::Behind(b"1\nchip\n", INVERTER), 0),
+    (b"sim", Input::Behind(b"1\nchip\n", TRANSISTOR), 0),
 ];
 
 /// A run in which each call of the source and of the sink fails in turn: its word and input, how many reads it makes, how many
@@ -510,21 +512,28 @@ pub(crate) const FAILING: &[Failing] = &[
     },
     Failing {
         word: b"sim",
-        input: Input::Compiled(b"1\n0\n1\nchip\n", ONE),
+        input: Input::Behind(b"1\nchip\n", TRANSISTOR),
+        reads: 2,
+        most: usize::MAX,
+        writes: 2,
+    },
+    Failing {
+        word: b"sim",
+        input: Input::Compiled(b"net", b"1\n0\n1\nchip\n", ONE),
         reads: 2,
         most: 1,
         writes: 16,
     },
     Failing {
         word: b"sim",
-        input: Input::Compiled(b"1\n0\n1\nchip\n", ONE),
+        input: Input::Compiled(b"net", b"1\n0\n1\nchip\n", ONE),
         reads: 2,
         most: 2,
         writes: 8,
     },
     Failing {
         word: b"sim",
-        input: Input::Compiled(b"1\n0\n1\nchip\n", ONE),
+        input: Input::Compiled(b"net", b"1\n0\n1\nchip\n", ONE),
         reads: 2,
         most: 4,
         writes: 4,

@@ -2,20 +2,28 @@
 
 ghost use Rattle.std.specs.Prelude.{ℕ, ◌≡◌, ◌<◌, ◌≤◌, ◌+◌, ◌^◌, length, IfErr, IfOk};
 ghost use Rattle.rx_text.specs.declared.place.Place.TheVariants.{Text};
+ghost use Rattle.net_text.specs.NetworkText.{IsNetworkText};
 ghost use Rattle.switch_sim.specs.TraceTexts.{IsTrace};
 ghost use Rattle.rxc_program.specs.Behaviour.{most_input_bytes};
+ghost use Rattle.rxc_program.specs.Chips.{BreaksNetwork, IsChip, IsNoChip};
 ghost use Rattle.rxc_program.specs.Endings.{change, CommandRun};
 ghost use Rattle.rxc_program.specs.Serving.{AnswersText, StopsBy, TakesLines};
-ghost use Rattle.rxc_program.specs.Simulating.{BreaksBehind, BreaksDriven, BreaksTrace, IsChip, IsDrivenBy, lower, simulating};
+ghost use Rattle.rxc_program.specs.Simulating.{BreaksBehind, BreaksDriven, BreaksTrace, IsDrivenBy, lower, simulating};
 
+use crate::extract::layout_of;
 use crate::input::read_input;
+use crate::plain_run::run_plain;
 use crate::status::{Code, Status};
+use layout_network::layout_refusals_stand_in_the_text;
 use net_text::{ReadNetFault, read_net, refusals_stand_in_the_text};
 use rx_io::{Sink, Source};
 use rx_text::Place;
 use std::alloc::Global;
 use switch_net::Network;
-use switch_sim::{ReadTraceFault, RunFault, Trace, read_trace, run_trace};
+use switch_sim::{ReadTraceFault, RunFault, Trace, read_trace};
+
+/// How a network text begins.
+const NETWORK_FRONT: &[u8] = b"rxnet 1\n";
 
 /// Reads a trace and a chip, runs the chip through the trace, and writes a line after each clock.
 pub(crate) fn sim<S: Source, O: Sink>(alloc: Global, src: &mut S, out: &mut O) -> Status
@@ -47,7 +55,7 @@ fn read_driven(alloc: Global, text: &[u8]) -> Result<(Trace, Network), Status>
 {
     let (trace, at) = trace_of(alloc, text)?;
     let (_, chip) = text.split_at(at);
-    let network = chip_of(alloc, chip, trace.len() as u32 + 1)?;
+    let network = chip_behind(alloc, chip, trace.len() as u32 + 1)?;
     Ok((trace, network))
 }
 
@@ -69,18 +77,47 @@ fn trace_of(alloc: Global, text: &[u8]) -> Result<(Trace, usize), Status>
 }
 
 /// The network of the chip whose text stands behind so many lines.
-fn chip_of(alloc: Global, chip: &[u8], lines: u32) -> Result<Network, Status>
+fn chip_behind(alloc: Global, chip: &[u8], lines: u32) -> Result<Network, Status>
     requires within { length chip.now ≤ most_input_bytes }
     requires few { lines ≤ 10001 }
     ensures network { IfOk result (λ network. IsChip chip.now network) }
     ensures status { IfErr result (StopsBy (BreaksBehind chip.now lines)) }
 {
     refusals_stand_in_the_text();
-    match read_net(alloc, chip) {
+    layout_refusals_stand_in_the_text();
+    match chip_of(alloc, chip) {
+        Err(Status::Refused { code, place }) => Err(Status::Refused {
+            code,
+            place: lower(place, lines),
+        }),
+        other => other,
+    }
+}
+
+/// The network that the chip stands for: a network text where it begins as one, else a layout.
+fn chip_of(alloc: Global, chip: &[u8]) -> Result<Network, Status>
+    requires { length chip.now ≤ most_input_bytes }
+    ensures network { IfOk result (λ network. IsChip chip.now network) }
+    ensures status { IfErr result (StopsBy (IsNoChip chip.now)) }
+{
+    if chip.starts_with(NETWORK_FRONT) {
+        network_of(alloc, chip)
+    } else {
+        layout_of(alloc, chip)
+    }
+}
+
+/// The network that the network text stands for.
+fn network_of(alloc: Global, text: &[u8]) -> Result<Network, Status>
+    requires { length text.now ≤ most_input_bytes }
+    ensures network { IfOk result (λ network. IsNetworkText text.now network) }
+    ensures status { IfErr result (StopsBy (BreaksNetwork text.now)) }
+{
+    match read_net(alloc, text) {
         Ok(network) => Ok(network),
         Err(ReadNetFault::Fault(fault)) => Err(Status::Refused {
             code: Code::of_net(fault.code),
-            place: lower(fault.place, lines),
+            place: fault.place,
         }),
         Err(ReadNetFault::NoMemory) => Err(Status::NoMemory),
     }
@@ -106,7 +143,7 @@ fn run_through<O: Sink>(alloc: Global, network: &Network, trace: &Trace, out: &m
     ensures taken { TakesLines (change O.held O.faults out.old out.new) network.now trace.now result }
     ensures count { O.faults out.old ≤ O.faults out.new }
 {
-    match run_trace(alloc, network, trace, out) {
+    match run_plain(alloc, network, trace, out) {
         Ok(()) => Status::Done,
         Err(RunFault::WrongWidth { vector }) => Status::Refused {
             code: Code::V2,

@@ -10,14 +10,14 @@ pub(crate) const INVERTER: &[u8] =
 pub(crate) const SIM_ROWS: &[Row] = &[
     Row {
         words: &[b"sim"],
-        input: Input::Compiled(b"1\n0\n1\nchip\n", ONE),
+        input: Input::Compiled(b"net", b"1\n0\n1\nchip\n", ONE),
         end: End::Done,
         output: Output::Is(b"0 0\n1 1\n2 0\n3 0\n"),
         log: b"",
     },
     Row {
         words: &[b"sim"],
-        input: Input::Compiled(b"chip\n", ONE),
+        input: Input::Compiled(b"net", b"chip\n", ONE),
         end: End::Done,
         output: Output::Is(b"0 0\n"),
         log: b"",
@@ -25,6 +25,7 @@ pub(crate) const SIM_ROWS: &[Row] = &[
     Row {
         words: &[b"sim"],
         input: Input::Compiled(
+            b"net",
             b"10\n01\n11\n00\n10\nchip\n",
             b"line x y;\nsymbol a = 1-;\nsymbol b = 01;\noutput z;\nexpr (a|b)* a !z;\n",
         ),
@@ -35,6 +36,7 @@ pub(crate) const SIM_ROWS: &[Row] = &[
     Row {
         words: &[b"sim"],
         input: Input::Compiled(
+            b"net",
             b"1\n0\nchip\n",
             b"line x;\nsymbol a = 1;\noutput z;\nexpr (a? !z)*;\n",
         ),
@@ -45,6 +47,7 @@ pub(crate) const SIM_ROWS: &[Row] = &[
     Row {
         words: &[b"sim"],
         input: Input::Compiled(
+            b"net",
             b"0\n1\n0\nchip\n",
             b"line x;\nsymbol a = 1;\nsymbol b = 0;\noutput z;\nexpr ((a*)* | b?)+ !z;\n",
         ),
@@ -55,6 +58,7 @@ pub(crate) const SIM_ROWS: &[Row] = &[
     Row {
         words: &[b"sim"],
         input: Input::Compiled(
+            b"net",
             b"1\n0\nchip\n",
             b"line x;\nsymbol a = 1;\nsymbol b = 0;\noutput y z;\nexpr (a !y) b !z;\n",
         ),
@@ -65,6 +69,7 @@ pub(crate) const SIM_ROWS: &[Row] = &[
     Row {
         words: &[b"sim"],
         input: Input::Compiled(
+            b"net",
             b"1\n1\n1\n1\nchip\n",
             b"version 2;\nline x;\nsymbol a = 1;\noutput z;\nexpr a{2,3} !z;\n",
         ),
@@ -75,6 +80,7 @@ pub(crate) const SIM_ROWS: &[Row] = &[
     Row {
         words: &[b"sim"],
         input: Input::Compiled(
+            b"net",
             b"1\n0\n1\n0\nchip\n",
             b"version 2;\nline x;\nsymbol a = 1;\nsymbol b = 0;\noutput z;\nscan a b !z;\n",
         ),
@@ -85,6 +91,7 @@ pub(crate) const SIM_ROWS: &[Row] = &[
     Row {
         words: &[b"sim"],
         input: Input::Compiled(
+            b"net",
             b"0\nchip\n",
             b"version 2;\nline x;\nsymbol a = 1;\nsymbol b = 0;\noutput z;\nscan a? !z;\n",
         ),
@@ -95,6 +102,7 @@ pub(crate) const SIM_ROWS: &[Row] = &[
     Row {
         words: &[b"sim"],
         input: Input::Compiled(
+            b"net",
             b"11\n11\nchip\n",
             b"line x y;\nsymbol a = 1-;\nsymbol b = -1;\noutput z v;\nexpr a b !z;\nexpr b a !v;\n",
         ),
@@ -105,6 +113,7 @@ pub(crate) const SIM_ROWS: &[Row] = &[
     Row {
         words: &[b"sim"],
         input: Input::Compiled(
+            b"net",
             b"1\n1\nchip\n",
             b"line x;\nsymbol a = 1;\noutput z;\nexpr a;\n",
         ),
@@ -115,6 +124,7 @@ pub(crate) const SIM_ROWS: &[Row] = &[
     Row {
         words: &[b"sim"],
         input: Input::Compiled(
+            b"net",
             b"1\n1\n0\n1\n1\n0\n1\nchip\n",
             b"line d;\nsymbol one = 1;\nsymbol zero = 0;\noutput hit;\nexpr (one|zero)* one one zero one !hit;\n",
         ),
@@ -125,6 +135,7 @@ pub(crate) const SIM_ROWS: &[Row] = &[
     Row {
         words: &[b"sim"],
         input: Input::Compiled(
+            b"net",
             b"10\n11\n00\n01\n10\n11\nchip\n",
             b"line req ack;\nsymbol idle = 00;\nsymbol ask = 10;\nsymbol grant = 11;\nsymbol lone_ack = 01;\nsymbol any = --;\noutput done stray;\nexpr any* ask grant !done;\nexpr any* idle lone_ack !stray;\n",
         ),
@@ -135,6 +146,7 @@ pub(crate) const SIM_ROWS: &[Row] = &[
     Row {
         words: &[b"sim"],
         input: Input::Compiled(
+            b"net",
             b"1\n1\n1\n1\nchip\n",
             b"line d;\nsymbol one = 1;\noutput run;\nexpr one one one !run;\n",
         ),
@@ -145,6 +157,7 @@ pub(crate) const SIM_ROWS: &[Row] = &[
     Row {
         words: &[b"sim"],
         input: Input::Compiled(
+            b"net",
             b"0\n1\n0\n1\n0\n1\n0\n1\n0\nchip\n",
             b"line enable;\nsymbol tick = -;\noutput ready;\nexpr tick tick tick tick tick tick tick tick !ready;\n",
         ),
@@ -273,23 +286,23 @@ pub(crate) const REFUSED_SIM_ROWS: &[Row] = &[
     Row {
         words: &[b"sim"],
         input: Input::Text(b"11\nchip\n"),
-        end: End::Refused(Code::N1, 3, 1),
+        end: End::Refused(Code::C10, 3, 1),
         output: NOTHING,
-        log: b"rxc: N1 Syntax at 3:1\n",
+        log: b"rxc: C10 NoEnd at 3:1\n",
     },
     Row {
         words: &[b"sim"],
         input: Input::Text(b"11\nchip\nrxnet 2\n"),
-        end: End::Refused(Code::N1, 3, 7),
+        end: End::Refused(Code::C10, 4, 1),
         output: NOTHING,
-        log: b"rxc: N1 Syntax at 3:7\n",
+        log: b"rxc: C10 NoEnd at 4:1\n",
     },
     Row {
         words: &[b"sim"],
         input: Input::Text(b"chip\n\n"),
-        end: End::Refused(Code::N1, 2, 1),
+        end: End::Refused(Code::C10, 3, 1),
         output: NOTHING,
-        log: b"rxc: N1 Syntax at 2:1\n",
+        log: b"rxc: C10 NoEnd at 3:1\n",
     },
     Row {
         words: &[b"sim"],
@@ -373,16 +386,30 @@ pub(crate) const REFUSED_SIM_ROWS: &[Row] = &[
     Row {
         words: &[b"sim"],
         input: Input::Behind(b"1\n0\nchip\n", b"DS 1;\nDF;\nE\n"),
+        end: End::Whole(Code::X6),
+        output: NOTHING,
+        log: b"rxc: X6 MissingPad\n",
+    },
+    Row {
+        words: &[b"sim"],
+        input: Input::Text(b"chip\n"),
+        end: End::Refused(Code::C10, 2, 1),
+        output: NOTHING,
+        log: b"rxc: C10 NoEnd at 2:1\n",
+    },
+    Row {
+        words: &[b"sim"],
+        input: Input::Text(b"11\nchip\nrxnet 1\n"),
         end: End::Refused(Code::N1, 4, 1),
         output: NOTHING,
         log: b"rxc: N1 Syntax at 4:1\n",
     },
     Row {
         words: &[b"sim"],
-        input: Input::Text(b"chip\n"),
-        end: End::Refused(Code::N1, 2, 1),
+        input: Input::Text(b"11\nchip\nrxnet 1\nnets x\n"),
+        end: End::Refused(Code::N1, 4, 6),
         output: NOTHING,
-        log: b"rxc: N1 Syntax at 2:1\n",
+        log: b"rxc: N1 Syntax at 4:6\n",
     },
     Row {
         words: &[b"sim"],

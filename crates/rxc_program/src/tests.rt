@@ -1,13 +1,16 @@
 //! Runs of the program over memory: each row of the tables, and inputs that are cut or noise.
 use crate::extract_rows::EXTRACT_ROWS;
 use crate::pla_rows::PLA_ROWS;
-use crate::report_rows::{LARGE_REPORT_ROWS, REPORT_ROWS};
+use crate::process_rows::PROCESS_ROWS;
+use crate::report_rows::{DRAWN_SIDES, LARGE_REPORT_ROWS, REPORT_ROWS};
 use crate::rows::{FAILING, FRONTS, Failing, Input, ONE, Output, ROWS, Row, status_of};
+use crate::sim_layout_rows::SIM_LAYOUT_ROWS;
 use crate::sim_rows::{REFUSED_SIM_ROWS, SIM_ROWS};
 use crate::status::Status;
 use crate::tree_rows::TREE_ROWS;
 use crate::words::RxWord;
 use crate::{exit_code, rxc};
+use cif_read::{flatten, read_cif};
 use rx_io::{MemSink, MemSource};
 use std::alloc::Global;
 use std::process::{Abort, ExitCode};
@@ -81,9 +84,9 @@ fn bytes_of(alloc: Global, input: &Input) -> Result<Vec<u8>, Fail> {
             put_repeated(&mut text, piece, *times)?;
             text.extend_from_slice(rest)?;
         }
-        Input::Compiled(trace, specification) => {
+        Input::Compiled(word, trace, specification) => {
             text.extend_from_slice(trace)?;
-            let compiled = run_on(alloc, &[b"net"], specification, NO_FAULTS)?;
+            let compiled = run_on(alloc, &[word], specification, NO_FAULTS)?;
             text.extend_from_slice(&compiled.out)?;
         }
     }
@@ -137,6 +140,11 @@ fn refused_simulations_come_out(rt: HostRuntime) -> Result<(), Fail> {
 }
 
 #[test]
+fn simulations_of_layouts_come_out(rt: HostRuntime) -> Result<(), Fail> {
+    rows_come_out(&rt, rt.alloc(), SIM_LAYOUT_ROWS)
+}
+
+#[test]
 fn arrays_come_out(rt: HostRuntime) -> Result<(), Fail> {
     rows_come_out(&rt, rt.alloc(), PLA_ROWS)
 }
@@ -159,6 +167,48 @@ fn reports_come_out(rt: HostRuntime) -> Result<(), Fail> {
 #[test]
 fn large_reports_come_out(rt: HostRuntime) -> Result<(), Fail> {
     rows_come_out(&rt, rt.alloc(), LARGE_REPORT_ROWS)
+}
+
+/// The width and the height in lambda of the box of whole tiles round all that the text draws.
+fn drawn_sides(alloc: Global, text: &[u8]) -> Option<(i64, i64)> {
+    let drawing = read_cif(alloc, text).ok()?;
+    let boxes = flatten(alloc, &drawing).ok()?.boxes;
+    let (mut west, mut south) = (i64::MAX, i64::MAX);
+    let (mut east, mut north) = (i64::MIN, i64::MIN);
+    for b in boxes.as_slice() {
+        (west, south) = (west.min(b.x1), south.min(b.y1));
+        (east, north) = (east.max(b.x2), north.max(b.y2));
+    }
+    let width = tiles_up_to(east).wrapping_add(tiles_up_to(west.wrapping_neg()));
+    let height = tiles_up_to(north).wrapping_add(tiles_up_to(south.wrapping_neg()));
+    Some((width.wrapping_mul(14), height.wrapping_mul(14)))
+}
+
+/// So many whole tiles, of 14 lambda, reach up to the edge.
+fn tiles_up_to(edge: i64) -> i64 {
+    edge.wrapping_add(13).div_euclid(14)
+}
+
+/// The box of what a command draws has the sides of its row.
+#[test]
+fn drawn_sides_come_out(rt: HostRuntime) -> Result<(), Fail> {
+    let alloc = rt.alloc();
+    for (number, row) in DRAWN_SIDES.iter().enumerate() {
+        let text = bytes_of(alloc, &row.input)?;
+        let layout = run_on(alloc, &[row.word], &text, NO_FAULTS)?;
+        let sides = drawn_sides(alloc, &layout.out);
+        assert!(rt; sides.is_some(), "row {number}");
+        let (width, height) = sides.unwrap_or((0, 0));
+        assert!(rt;
+            row.least.0 <= width && width <= row.greatest.0,
+            "width of row {number}"
+        );
+        assert!(rt;
+            row.least.1 <= height && height <= row.greatest.1,
+            "height of row {number}"
+        );
+    }
+    Ok(())
 }
 
 /// The run is refused, and writes nothing.
@@ -282,21 +332,24 @@ fn layouts_are_cut_off(rt: HostRuntime) -> Result<(), Fail> {
     Ok(())
 }
 
-/// At a refusal the process ends with 1 and one line on the standard error, of which a log that fails may lose the end.
+/// Each run ends the process with the number of its row and its line on the standard error, of which a log without room takes
+/// less or nothing.
 #[test]
-fn a_refusal_ends_the_process(rt: HostRuntime) -> Result<(), Fail> {
+fn runs_end_the_process(rt: HostRuntime) -> Result<(), Fail> {
     let alloc = rt.alloc();
-    for (room, line) in [
-        (100, b"rxc: S6 NoLines at 1:1\n".as_slice()),
-        (7, b"rxc: S6"),
-    ] {
-        let words = command_words(alloc, &[b"net"])?;
-        let mut src = MemSource::new(Vec::new(alloc), Vec::new(alloc));
-        let mut out = MemSink::new(alloc, 100, Vec::new(alloc), 100)?;
-        let mut log = MemSink::new(alloc, room, Vec::new(alloc), 100)?;
-        let code = exit_code(alloc, words.as_slice(), &mut src, &mut out, &mut log);
-        assert_eq!(rt; code, ExitCode::from(1));
-        assert_eq!(rt; log.held(), line);
+    for (number, row) in PROCESS_ROWS.iter().enumerate() {
+        let text = bytes_of(alloc, &row.input)?;
+        for room in [100, 7, 0] {
+            let words = command_words(alloc, row.words)?;
+            let mut src = MemSource::new(text.to_vec(alloc)?, vec![in alloc; row.read]?);
+            let mut out = MemSink::new(alloc, 1000, vec![in alloc; row.write]?, 16)?;
+            let mut log = MemSink::new(alloc, room, Vec::new(alloc), 100)?;
+            let code = exit_code(alloc, words.as_slice(), &mut src, &mut out, &mut log);
+            assert_eq!(rt; code, ExitCode::from(row.exit), "row {number}");
+            assert_eq!(rt; out.held().len(), row.written, "row {number}");
+            assert!(rt; row.line.starts_with(log.held()), "row {number}");
+            assert_eq!(rt; log.held().len(), row.line.len().min(room), "row {number}");
+        }
     }
     Ok(())
 }

@@ -36,8 +36,9 @@ use rx_text::NoMemory;
 use star_normal::laws::tables_have_the_leaves_of_their_trees;
 use star_normal::{Tree, normalize};
 use std::alloc::Global;
+use tile_rules::laws::tiles_keep_rules;
 use tree_chip::chip;
-use tree_chip::laws::trees_recognise;
+use tree_chip::laws::{trees_draw_cells, trees_recognise};
 use tree_layout::layout;
 
 /// The most symbols in the expressions of a specification.
@@ -87,11 +88,13 @@ fn layout_chip(alloc: Global, spec: &Spec) -> Result<Chip, NoMemory>
     ensures { IfOk result (IsLayoutOf (specification spec.now)) }
 {
     tables_have_the_leaves_of_their_trees();
+    trees_draw_cells();
     trees_recognise();
     rectangles_exist();
     sides_bound_the_area();
     chip_texts_draw();
     equal_drawings_are_alike::<DrawnTree, WrittenChip>();
+    tiles_keep_rules::<WrittenChip>();
     let tree = normalize(alloc, spec)?;
     cells_recognise(alloc, &tree, spec)?;
     let blocks = layout(alloc, &tree)?;

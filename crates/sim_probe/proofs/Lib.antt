@@ -4,3 +4,4 @@ pub mod Tallies
 pub mod Lasts
 pub mod Ends
 pub mod Dumps
+pub mod DueRegular

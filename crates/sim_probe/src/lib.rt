@@ -10,7 +10,7 @@ mod sample;
 mod toggles;
 mod waves;
 
-pub use laws::{samples_give_texts, toggles_end_at_stops};
+pub use laws::{due_samples_are_regular, samples_give_texts, toggles_end_at_stops};
 pub use probe::Probe;
 pub use rx_text::NoMemory;
 pub use sample::{Sample, Verdict};

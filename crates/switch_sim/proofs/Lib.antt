@@ -19,3 +19,15 @@ pub mod Handled
 pub mod Settles
 pub mod Naming
 pub mod Numbered
+pub mod SeenAfter
+pub mod Listeners
+pub mod ServedRuns
+pub mod ServedParts
+pub mod Middles
+pub mod Progress
+pub mod FewPads
+pub mod EndedClocks
+pub mod ServedOne
+pub mod ToldPads
+pub mod EndTexts
+pub mod OneServed

@@ -8,7 +8,7 @@ use Rattle.switch_net.specs.LeastLevels.{HaveSameLevels, AllHaveSameLevels, RunL
 use Rattle.switch_net.specs.Ternary.{Levels, nothing_known}
 use Rattle.switch_net.specs.Validity.{IsNetwork}
 use Rattle.switch_net.specs.declared.network.Pad.{Pad}
-use Rattle.switch_sim.specs.TraceLines.{pad_byte, output_bytes, lines_from, TraceLines}
+use Rattle.switch_sim.specs.TraceLines.{pad_byte, output_bytes, clock_line, lines_from, TraceLines}
 
 -- the line of these bytes after this clock
 abbrev byte_line : ℕ → List ℕ → List ℕ
@@ -20,13 +20,17 @@ module _ (circuit : Circuit) where
   outputs_alike v w same (pad ∷ pads) inside =
       ap₂ ◌++◌ (ap (pad_byte pad.name.role) (same pad.net.0 inside.0)) (outputs_alike v w same pads inside.1)
 
+  pub line_alike : (inside : AllByRecursion (λ pad. pad.net.0 < circuit.nets) circuit.pads) (clock : ℕ) (v w : Levels) → HaveSameLevels circuit v w
+      → clock_line circuit clock v ≡ clock_line circuit clock w
+  line_alike inside clock v w same = ap (λ bytes. byte_line clock bytes) (outputs_alike v w same circuit.pads inside)
+
   lines_alike : (inside : AllByRecursion (λ pad. pad.net.0 < circuit.nets) circuit.pads) (clock : ℕ) (vs ws : List Levels) → AllHaveSameLevels circuit vs ws
       → lines_from circuit clock vs ≡ lines_from circuit clock ws
   lines_alike inside clock [] [] same = refl
   lines_alike inside clock [] (w ∷ ws) same = absurd same
   lines_alike inside clock (v ∷ vs) [] same = absurd same
   lines_alike inside clock (v ∷ vs) (w ∷ ws) same =
-      ap₂ ◌++◌ (ap (λ bytes. byte_line clock bytes) (outputs_alike v w same.0 circuit.pads inside)) (lines_alike inside (suc clock) vs ws same.1)
+      ap₂ ◌++◌ (line_alike inside clock v w same.0) (lines_alike inside (suc clock) vs ws same.1)
 
 pub one_output : RunLevelsAreOne → (circuit : Circuit) → IsNetwork circuit → (vectors : List (List Bool)) (some other : List ℕ)
     → TraceLines circuit vectors some → TraceLines circuit vectors other → some ≡ other

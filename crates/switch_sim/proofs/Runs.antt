@@ -17,7 +17,7 @@ abbrev pub last_of : Levels → List Levels → Levels
 last_of q [] = q
 last_of q (v ∷ vs) = last_of v vs
 
-last_more : (q : Levels) (vs : List Levels) (w : Levels) → last_of q (vs ++ w ∷ []) ≡ w
+pub last_more : (q : Levels) (vs : List Levels) (w : Levels) → last_of q (vs ++ w ∷ []) ≡ w
 last_more q [] w = refl
 last_more q (v ∷ vs) w = last_more v vs w
 
@@ -29,14 +29,14 @@ module _ (circuit : Circuit) where
       ap (λ l. clock_line circuit clock v ++ l) (lines_join (suc clock) vs ws ∙ ap (λ n. lines_from circuit (suc clock) vs ++ lines_from circuit n ws) next)
       ∙ sym (append_assoc (clock_line circuit clock v) (lines_from circuit (suc clock) vs) _)
 
-  clocks_join : (u : List (List Bool)) (q : Levels) (vs : List Levels) (more : List (List Bool)) (ws : List Levels) → ClocksLevels circuit q u vs
+  pub clocks_join : (u : List (List Bool)) (q : Levels) (vs : List Levels) (more : List (List Bool)) (ws : List Levels) → ClocksLevels circuit q u vs
       → ClocksLevels circuit (last_of q vs) more ws → ClocksLevels circuit q (u ++ more) (vs ++ ws)
   clocks_join [] q [] more ws h k = k
   clocks_join [] q (v ∷ vs) more ws h k = absurd h
   clocks_join (x ∷ u) q [] more ws h k = absurd h
   clocks_join (x ∷ u) q (v ∷ vs) more ws h k = (h.0, clocks_join u v vs more ws h.1 k)
 
-  clocks_size : (u : List (List Bool)) (q : Levels) (vs : List Levels) → ClocksLevels circuit q u vs → length vs ≡ length u
+  pub clocks_size : (u : List (List Bool)) (q : Levels) (vs : List Levels) → ClocksLevels circuit q u vs → length vs ≡ length u
   clocks_size [] q [] h = refl
   clocks_size [] q (v ∷ vs) h = absurd h
   clocks_size (x ∷ u) q [] h = absurd h

@@ -4,8 +4,12 @@ pub mod TraceTexts
 pub mod TraceCuts
 pub mod TraceLines
 pub mod TraceLaws
+pub mod Serving
+pub mod ServedParts
+pub mod ServedLaws
 -- Definitions that serve private contracts alone:
 pub mod TraceReading
+pub mod ServingSteps
 pub mod Waiting
 pub mod Rooms
 pub mod Incidence

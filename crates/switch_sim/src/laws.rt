@@ -1,9 +1,11 @@
-// What holds of the texts of traces.
+// What holds of the texts of traces, and of runs.
 
 ghost use Rattle.std.specs.Prelude.{◌≡◌, ◌⊎◌, ℕ, Bool, List};
 ghost use Rattle.rx_text.specs.declared.place.Place.{Place};
 ghost use Rattle.switch_net.specs.Circuit.{Circuit};
 ghost use Rattle.switch_net.specs.Validity.{IsNetwork};
+ghost use Rattle.switch_sim.specs.ServedLaws.{ServedRunsExist, ServedRunsAreOne, UnservedRunsWriteLines, UnservedRunsWriteFronts};
+ghost use Rattle.switch_sim.specs.ServedParts.{EndedAreToldTheirPart, OthersAreToldAll};
 ghost use Rattle.switch_sim.specs.TraceLines.{TraceLines};
 ghost use Rattle.switch_sim.specs.TraceTexts.{IsTrace, TraceRefusal};
 ghost use Rattle.switch_sim.specs.TraceLaws.{BeginsWithTrace};
@@ -36,3 +38,31 @@ pub fn traces_have_one_output()
 {
     ternary_runs_exist();
 }
+
+/// What a served probe is told of the samples that are due to it: the shortest front of them, of those that are not empty, that
+/// ends it, and all where there is none. It runs nothing.
+pub fn probes_are_told_in_order()
+    ensures ended { EndedAreToldTheirPart }
+    ensures others { OthersAreToldAll }
+{}
+
+/// A run that serves probes exists. It runs nothing.
+pub fn served_runs_exist()
+    ensures { ServedRunsExist }
+{
+    ternary_runs_exist();
+}
+
+/// What it writes, which probes it leaves and what they have seen is a function of the network, the vectors and the meanings of the
+/// probes. It runs nothing.
+pub fn served_runs_are_one()
+    ensures { ServedRunsAreOne }
+{
+    ternary_runs_exist();
+}
+
+/// Where no probe is served, a run writes the lines of its clocks alone, and the probes are as they were. It runs nothing.
+pub fn unserved_runs_write_lines()
+    ensures done { UnservedRunsWriteLines }
+    ensures failed { UnservedRunsWriteFronts }
+{}

@@ -8,6 +8,7 @@ mod incidence;
 mod laws;
 mod names;
 mod run;
+mod serving;
 mod settling;
 mod sim;
 mod telling;
@@ -16,9 +17,13 @@ mod trace_code;
 mod waiting;
 mod worklist;
 
-pub use laws::{texts_are_traces_or_refused, traces_have_an_output, traces_have_one_output};
+pub use laws::{
+    probes_are_told_in_order, served_runs_are_one, served_runs_exist, texts_are_traces_or_refused,
+    traces_have_an_output, traces_have_one_output, unserved_runs_write_lines,
+};
 pub use run::{RunFault, run_trace};
 pub use rx_text::NoMemory;
+pub use serving::Asked;
 pub use sim::Sim;
 pub use trace::{Trace, read_trace};
 pub use trace_code::{ReadTraceFault, TraceCode, TraceFault};

@@ -22,7 +22,7 @@ use Rattle.nmos_model.specs.Lists.{Matched}
 use Rattle.nmos_model.specs.Pads.{first_labels, IsNeeded, HasLabel}
 use Rattle.nmos_model.specs.Networks.{StandsFor}
 use Rattle.nmos_model.specs.Refusals.{spot_of}
-use Rattle.stick_grid.specs.Plans.{Plan, Covers}
+use Rattle.stick_grid.specs.Plans.{Plan, IsPlan, Covers}
 use Rattle.stick_grid.specs.Pieces.{Piece, IsIn}
 use Rattle.stick_grid.specs.Transistors.{piece}
 use Rattle.stick_grid.specs.Depicted.{IsNamedPad, Depicts, PlansStandForNetworks}
@@ -149,6 +149,9 @@ module _ (sheet : Sheet) (tree : TreeTable) (tables : Tables) (is_tree : IsTree 
   made : IsModule plan nets (whole_name mods in_place) supply (whole_devices mods many) (whole_border plan mods in_place)
   unfolding covering
   made = coverings plan nets supply mods many (covering sheet tree tables is_tree known_tables symbols of order laws blocks driven parts meet)
+
+  pub is_plan : IsPlan plan
+  is_plan = made.is_plan
 
   -- ---- pads
 

@@ -9,7 +9,7 @@ use Rattle.star_normal.specs.Tables.{TreeTable, IsTree, whole}
 use Rattle.star_normal.specs.Trees.{leaves}
 use Rattle.micro_tiles.specs.declared.side.Side.TheVariants.{South}
 use Rattle.switch_net.specs.declared.network.Pad.{Pad}
-use Rattle.stick_grid.specs.Plans.{Plan, Covers}
+use Rattle.stick_grid.specs.Plans.{Plan, IsPlan, Covers}
 use Rattle.stick_grid.specs.Depicted.{border_spot}
 use Rattle.stick_grid.specs.LabelledModules.{StandsForSame}
 use Rattle.nor_net.specs.SwitchForm.{switch_form}
@@ -67,6 +67,11 @@ pad_label sheet tree tables pad = record {
 
 abbrev pub tree_labels : Sheet → TreeTable → Tables → List Label
 tree_labels sheet tree tables = map (pad_label sheet tree tables) (frame_pads (counts_of tree tables) tables)
+
+-- The tiles of a tree's layout are a plan: neighbours meet, inside blocks and at their seams.
+abbrev pub TreesArePlans : Type 0
+TreesArePlans = (sheet : Sheet) (tree : TreeTable) (tables : Tables) → IsTree tree → IsSpecification tables
+    → All (λ s. s < length tables.symbols) (leaves (whole tree)) → IsSheetOf tree sheet → IsPlan (tree_plan sheet tree tables)
 
 -- The layout of a tree under a specification's symbols stands, with these labels, for a network that is the same as that of the cells.
 abbrev pub TreesDrawCells : Type 0

@@ -1,7 +1,7 @@
 //! What the layout of a tree stands for. Each law is the contract of a function that runs nothing.
 
 ghost use Rattle.tree_chip.specs.TreeNetworks.{TreesRecognise};
-ghost use Rattle.tree_chip.specs.TreePlans.{TreesDrawCells};
+ghost use Rattle.tree_chip.specs.TreePlans.{TreesArePlans, TreesDrawCells};
 
 use block_grid::laws::{bundles_go_on, edges_lead, nodes_are_found, nodes_stand_apart};
 use cell_network::assembly_laws::{cells_are_assembled, trees_have_parts};
@@ -12,10 +12,11 @@ use nor_net::laws::assemblies_are_the_same;
 use stick_grid::laws::{coverings_are_modules, plans_stand_for_networks};
 use switch_net::{same_networks_agree, same_networks_run_alike};
 
-/// The squares of a tree's layout with the labels of the pads stand for a network that is the same as that of the cells: the blocks of
-/// nodes have the devices of their parts, and each wire of a bundle is one net from the parent to the child.
+/// The tiles of a tree's layout are a plan. Its squares with the labels of the pads stand for a network that is the same as that of the
+/// cells: the blocks of nodes have the devices of their parts, and each wire of a bundle is one net from the parent to the child.
 pub fn trees_draw_cells()
-    ensures { TreesDrawCells }
+    ensures plan { TreesArePlans }
+    ensures network { TreesDrawCells }
 {
     blocks_are_modules();
     bundles_go_on();

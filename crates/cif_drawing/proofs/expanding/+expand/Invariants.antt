@@ -2,11 +2,12 @@
 use Rattle.std.proofs.Common.{◌≡◌, ◌++◌, map, take}
 use Rattle.cif_drawing.specs.Placements.{placed}
 use Rattle.cif_drawing.specs.Inks.{closed_symbols, inks_boxes}
+use Rattle.cif_drawing.specs.Shapes.{kept_ink}
 use Rattle.cif_drawing.proofs.Standing.{ink_rank}
 use Rattle.cif_drawing.proofs.expanding.+expand.Given as goal
 
 abbrev pub decreases-expand : goal.decreases-expand
-decreases-expand l = ink_rank l.ink.now
+decreases-expand l = ink_rank (kept_ink l.kept.now)
 
 abbrev pub invariant-loop-ink : goal.invariant-loop-ink
 invariant-loop-ink l =

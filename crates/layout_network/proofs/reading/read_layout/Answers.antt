@@ -15,7 +15,7 @@ returns-in-Ok-clause-layout c =
     let stands : StandsFor (Covered flat.boxes.items) flat.labels.items c.in-Ok.network =
     subst (λ ls. StandsFor (Covered flat.boxes.items) ls c.in-Ok.network) labels
     (subst (λ bs. StandsFor (Covered bs) c.deref-2.result.now c.in-Ok.network) boxes c.in-Ok.ensures.network) in
-    layout_of c.args.text.now flat.boxes.items flat.labels.items c.in-Ok.network c.in_ok-flat.ensures.drawn stands c.pads-pads.ensures.valid
+    layout_of c.args.text.now flat.boxes.items flat.labels.items c.in-Ok.network c.in_ok-flat.ensures.drawn stands
 
 pub returns-clause-fault : goal.returns-clause-fault
 returns-clause-fault c =

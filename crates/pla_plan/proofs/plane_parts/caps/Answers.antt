@@ -1,13 +1,17 @@
 -- One tile more.
-use Rattle.std.proofs.Common.{◌≡◌, ◌+◌, ◌++◌, ◌∷◌, [], length, map, sym, ap, ◌∙◌, arith}
+use Rattle.std.proofs.Common.{◌≡◌, ℕ, ◌+◌, ◌<◌, ◌++◌, ◌∷◌, List, [], length, get_or, map, sym, ap, ◌∙◌, arith}
 use Rattle.std.specs.List.{range_with_len}
-use Rattle.std.proofs.lemmas.List.FromFn.{map-range_with_len_more, length-map-range_with_len}
+use Rattle.std.proofs.lemmas.List.FromFn.{get_or-map-range_with_len, map-range_with_len_more, length-map-range_with_len}
 use Rattle.micro_tiles.specs.declared.basic.Basic.{Basic}
 use Rattle.gate_matrix.specs.declared.column.Column.{Column}
 use Rattle.gate_matrix.specs.Columns.{column_of}
 use Rattle.pla_plan.specs.Planes.{cap, cap_in}
-use Rattle.pla_plan.proofs.MatrixTiles.{column_read}
 use Rattle.pla_plan.proofs.plane_parts.caps.Goals as goal
+
+column_read : (at : List ℕ) (columns : List Column) (n col : ℕ) (k : Column) → columns ≡ map (column_of at) (range_with_len 0 n) → col < n
+    → k ≡ get_or columns col k → k ≡ column_of at col
+column_read at columns n col k are below read =
+    read ∙ ap (λ l. get_or l col k) are ∙ get_or-map-range_with_len (column_of at) 0 n col col k below (omega arith)
 
 pub index-requires : goal.index-requires
 index-requires c =

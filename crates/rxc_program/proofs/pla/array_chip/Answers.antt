@@ -29,4 +29,5 @@ returns c =
     (c.planes_are_plans.ensures _ array) c.tiles_keep_inside.ensures sizes terms shows fills
     c.in_ok-array.array _ c.in_ok-array.ensures labels.labels
     (λ chip. c.equal_drawings_are_alike.ensures.networks (record { array = c.in_ok-array.array }) (record { chip = chip }))
+    (λ chip. c.tiles_keep_rules.ensures (record { chip = chip }))
     c.chip.result c.chip.ensures.squares c.chip.ensures.labels c.chip.ensures.rows

@@ -36,6 +36,8 @@ returns c =
     let room : IsLevel (length tree.nodes + 1) level.0 = subst (λ n. IsLevel n level.0) (sym same) level.1 in
     tree_layouts sheet tree tables c.requires.tables c.requires.lines c.requires.outputs c.chip_texts_draw.ensures c.rectangles_exist.ensures
     c.sides_bound_the_area.ensures level.0 level.1 level.2 some (made.rows level.0 room) (made.cols level.0 room)
+    (c.trees_draw_cells.ensures.plan sheet tree tables is_tree c.requires.tables c.in_ok-tree.ensures.symbols is_sheet)
     (c.trees_recognise.ensures sheet tree tables is_tree c.requires.tables c.in_ok-tree.ensures.symbols is_sheet c.in_ok-cells_recognise.ensures)
     (λ chip. c.equal_drawings_are_alike.ensures.networks (record { blocks = sheet; tree = tree; spec = tables }) (record { chip = chip }))
+    (λ chip. c.tiles_keep_rules.ensures (record { chip = chip }))
     c.chip.result c.chip.ensures.blocks c.chip.ensures.squares c.chip.ensures.few c.chip.ensures.within c.chip.ensures.labels

@@ -11,7 +11,7 @@ pub returns : goal.returns
 returns c sheet tree tables is_tree known symbols of recogniser =
     draws (specification tables) (Covers (tree_plan sheet tree tables)) (tree_labels sheet tree tables) (switch_form (cells_of tree tables))
     c.same_networks_agree.ensures.symmetric c.same_networks_run_alike.ensures.show
-    (c.trees_draw_cells.ensures sheet tree tables is_tree known symbols of)
+    (c.trees_draw_cells.ensures.network sheet tree tables is_tree known symbols of)
     (cells_network tree tables (c.cells_are_assembled.ensures.driven tree tables is_tree known symbols)
     (c.trees_have_parts.ensures tree tables is_tree known symbols) (c.cells_are_netlists.ensures tree tables is_tree known symbols)
     (c.cells_are_assembled.ensures.devices tree tables is_tree known symbols)) recogniser

@@ -2,7 +2,7 @@
 use Rattle.std.proofs.Common.{◌≡◌, List, get_or, Some, None, subst}
 use Rattle.cif_drawing.specs.declared.ink.Symbol.{Symbol}
 use Rattle.cif_drawing.specs.Parts.{DrawingParts, part_of, part_chain}
-use Rattle.cif_drawing.proofs.Calling.{IsFound, found_short, part_chain_some, part_chain_none}
+use Rattle.cif_drawing.proofs.Calling.{found_short, part_chain_some, part_chain_none}
 use Rattle.cif_drawing.proofs.building.DrawingBuilder.chain_of_call.Goals as goal
 
 pub chain_of_call-requires : goal.chain_of_call-requires

@@ -1,7 +1,7 @@
 -- Nothing stands in a definition that was just opened.
-use Rattle.std.proofs.Common.{◌≡◌, List, [], None, sym, ap, subst, arith}
+use Rattle.std.proofs.Common.{◌≡◌, List, None, sym, ap, subst, arith}
 use Rattle.geom.specs.Rows.{Among}
-use Rattle.cif_drawing.specs.declared.ink.Ink.{Ink}
+use Rattle.cif_drawing.specs.Shapes.{InkShape}
 use Rattle.cif_drawing.specs.Parts.{DrawingParts, part_of}
 use Rattle.cif_drawing.specs.Inks.{closed_symbols, inks_boxes}
 use Rattle.cif_drawing.proofs.Numbers.{not_found}
@@ -14,7 +14,7 @@ invariant_of-self c =
       drawing = c.self.invariant.drawing;
       opening = (
         record {
-          inks = λ i a. (let Q : List Ink → Type 0 = λ l. Among l i in absurd (subst Q c.new.ensures.items a));
+          inks = λ i a. (let Q : List InkShape → Type 0 = λ l. Among l i in absurd (subst Q c.new.ensures.items a));
           short = omega arith;
           measure = ap (inks_boxes (closed_symbols c.self.inside.symbols)) c.new.ensures.items;
         },

@@ -1,8 +1,7 @@
 -- The edges fit.
-use Rattle.std.proofs.Common.{rules, ◌≡◌, ◌^◌, ℤ, pos, neg_ℤ, ◌≤ℤ◌, to_z, of_z, w64, refl, subst, sym, arith}
-use mir.Syntax.{w128}
+use Rattle.std.proofs.Common.{arith}
 use Rattle.std.proofs.lemmas.Int.{ints}
-use Rattle.geom.specs.Squares.{BoxShape, IsBox}
+use Rattle.geom.specs.Squares.{IsBox}
 use Rattle.cif_drawing.specs.Measures.{extent_box}
 use Rattle.cif_drawing.proofs.Placed.{box_same}
 use Rattle.cif_drawing.proofs.Tests.{box_of_test}

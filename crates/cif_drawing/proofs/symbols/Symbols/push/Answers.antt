@@ -1,5 +1,5 @@
 -- The new symbol is found by its number at the end.
-use Rattle.std.proofs.Common.{rules, ◌≡◌, ◌==◌, ℕ, List, length, Option, Some, None, cond, nat_eq, sym, ◌∙◌, ap, subst}
+use Rattle.std.proofs.Common.{rules, ◌≡◌, ◌==◌, ℕ, List, length, Some, None, cond, nat_eq, sym, ◌∙◌, ap, subst}
 use Rattle.std.specs.HashMap.{get}
 use Rattle.cif_drawing.specs.declared.ink.Symbol.{Symbol}
 use Rattle.cif_drawing.specs.Numbers.{IsIndexOf}

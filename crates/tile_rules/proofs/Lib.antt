@@ -1,0 +1,17 @@
+mod Steps
+mod Moved
+mod Tiled
+mod Near
+mod Strips
+mod Partners
+mod Spacing
+mod Widths
+mod Rounds
+mod Cuts
+mod Alike
+mod Channels
+mod Gates
+mod Implants
+mod NearChannels
+mod Loads
+mod Kept
