@@ -1,4 +1,4 @@
-//! Tests of the crates of boxes and tiles: tables of boxes, tiles, drawings and grids, and what each comes to.
+//! Tests of the crates of boxes and networks: tables of boxes and drawings, and what each comes to.
 #![tactic(auto)]
 
 #[cfg(test)]
@@ -6,10 +6,4 @@ mod drawings;
 #[cfg(test)]
 mod geometry;
 #[cfg(test)]
-mod grids;
-#[cfg(test)]
-mod laid;
-#[cfg(test)]
 mod sweeps;
-#[cfg(test)]
-mod tiles;

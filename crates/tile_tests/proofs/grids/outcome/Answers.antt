@@ -1,9 +1,9 @@
-use Rattle.std.proofs.Common.{◌≡◌, ◌↔◌, subst}
+use Rattle.std.proofs.Common.{subst}
 use Rattle.geom.specs.Squares.{Covered}
 use Rattle.nmos_model.specs.Networks.{StandsFor}
 use Rattle.stick_grid.specs.Plans.{Covers, plan_of}
-use Rattle.layout_tests.proofs.SameSquares.{Same, refused_alike}
-use Rattle.layout_tests.proofs.grids.outcome.Goals as goal
+use Rattle.tile_tests.proofs.SameSquares.{Same, refused_alike}
+use Rattle.tile_tests.proofs.grids.outcome.Goals as goal
 
 pub grid_network-requires : goal.grid_network-requires
 grid_network-requires c = λ code place refused.

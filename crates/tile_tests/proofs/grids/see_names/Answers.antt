@@ -3,8 +3,8 @@ use Rattle.std.proofs.lemmas.List.{take_more, take_all}
 use Rattle.rx_text.specs.Role.{bears_name}
 use Rattle.geom.specs.declared.chip.Label.{Label}
 use Rattle.nmos_model.specs.Pads.{AreNamed}
-use Rattle.layout_tests.proofs.SameSquares.{among_push}
-use Rattle.layout_tests.proofs.grids.see_names.Goals as goal
+use Rattle.tile_tests.proofs.SameSquares.{among_push}
+use Rattle.tile_tests.proofs.grids.see_names.Goals as goal
 
 pub loop-label-preserved : goal.loop-label-preserved
 loop-label-preserved c =

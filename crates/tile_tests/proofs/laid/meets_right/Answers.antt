@@ -1,7 +1,7 @@
 use Rattle.std.proofs.Common.{◌≡◌, ◌-◌, ◌∙◌, inl, inr, ap, arith, subst, sym}
 use Rattle.std.proofs.lemmas.Bool.{cases_eq}
 use Rattle.stick_grid.specs.Tilings.{tile_at, MeetsEast}
-use Rattle.layout_tests.proofs.laid.meets_right.Goals as goal
+use Rattle.tile_tests.proofs.laid.meets_right.Goals as goal
 
 pub loop-row-preserved : goal.loop-row-preserved
 loop-row-preserved c = λ row less.

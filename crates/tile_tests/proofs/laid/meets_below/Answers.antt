@@ -1,7 +1,7 @@
 use Rattle.std.proofs.Common.{◌≡◌, ◌-◌, ◌∙◌, inl, inr, ap, arith, subst, sym}
 use Rattle.std.proofs.lemmas.Bool.{cases_eq}
 use Rattle.stick_grid.specs.Tilings.{tile_at, MeetsSouth}
-use Rattle.layout_tests.proofs.laid.meets_below.Goals as goal
+use Rattle.tile_tests.proofs.laid.meets_below.Goals as goal
 
 pub loop-col-preserved : goal.loop-col-preserved
 loop-col-preserved c = λ col less.
