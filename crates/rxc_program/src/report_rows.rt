@@ -308,6 +308,19 @@ pub(crate) const LARGE_REPORT_ROWS: &[Row] = &[
         output: Output::Is(MANY_REPORT),
         log: b"",
     },
+    Row {
+        words: &[b"report"],
+        input: Input::Text(
+            b"version 2;\nline x;\nsymbol a = 1;\nsymbol b = 0;\noutput z;\nscan a b !z;\n",
+        ),
+        end: End::Done,
+        output: Output::Holds(
+            b"leaves 2\n",
+            b"\nterms 3\npla rows 87\npla columns 56\npla area 954912\n",
+            b"\n",
+        ),
+        log: b"",
+    },
     // The greatest array.
     Row {
         words: &[b"report"],

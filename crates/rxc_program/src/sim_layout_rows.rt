@@ -7,6 +7,9 @@ use crate::status::Code;
 const TWO_LINES: &[u8] =
     b"line x y;\nsymbol a = 1-;\nsymbol b = 01;\noutput z;\nexpr (a|b)* a !z;\n";
 
+/// An output that is high after each `a` with a `b` behind it.
+const SCAN: &[u8] = b"version 2;\nline x;\nsymbol a = 1;\nsymbol b = 0;\noutput z;\nscan a b !z;\n";
+
 /// Runs of `sim` on layouts, to their end and refused.
 pub(crate) const SIM_LAYOUT_ROWS: &[Row] = &[
     Row {
@@ -72,6 +75,20 @@ pub(crate) const SIM_LAYOUT_ROWS: &[Row] = &[
         ),
         end: End::Done,
         output: Output::Is(b"0 0\n1 0\n2 0\n3 0\n4 1\n5 0\n6 0\n7 1\n"),
+        log: b"",
+    },
+    Row {
+        words: &[b"sim"],
+        input: Input::Compiled(b"pla", b"1\n0\n1\n0\nchip\n", SCAN),
+        end: End::Done,
+        output: Output::Is(b"0 0\n1 0\n2 1\n3 0\n4 1\n"),
+        log: b"",
+    },
+    Row {
+        words: &[b"sim"],
+        input: Input::Compiled(b"tree", b"1\n0\n1\n0\nchip\n", SCAN),
+        end: End::Done,
+        output: Output::Is(b"0 0\n1 0\n2 1\n3 0\n4 1\n"),
         log: b"",
     },
     Row {

@@ -76,6 +76,13 @@ pub(crate) const TREE_ROWS: &[Row] = &[
         output: Output::Holds(b"DS 1 100 1;\nL ", b"\n94 IN:x ", b";\nE\n"),
         log: b"",
     },
+    Row {
+        words: &[b"tree"],
+        input: Input::Repeated(SYMBOLS, b" a", 4096, b" !z;\n"),
+        end: End::Done,
+        output: Output::Holds(b"DS 1 100 1;\nL ", b"\n94 OUT:z ", b";\nE\n"),
+        log: b"",
+    },
     // The array of a specification has at most 256 symbols; its tree may have more.
     Row {
         words: &[b"tree"],
