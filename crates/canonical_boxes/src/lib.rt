@@ -16,4 +16,5 @@ pub use combining::{both, outside, without};
 pub use holding::{Area, holds, holds_in_plane};
 pub use locating::locate;
 pub use rx_text::NoMemory;
+pub use standing::begun_among;
 pub use touching::{Touch, touches};

@@ -9,7 +9,7 @@ use geom::Box2;
 
 /// The numbers of the boxes that begin in row `y` and have a column from `from` up to but not including `to`: those from the first
 /// number up to but not including the second. Takes log n steps.
-pub(crate) fn begun_among(boxes: &[Box2], y: i64, from: i64, to: i64) -> (usize, usize)
+pub fn begun_among(boxes: &[Box2], y: i64, from: i64, to: i64) -> (usize, usize)
     requires { IsCanonical boxes.now }
     ensures within { result.1 ≤ length boxes.now }
     ensures numbers { (k : ℕ) (b : BoxShape) → IsAt boxes.now k b

@@ -150,6 +150,11 @@ four a b c d e =
 from_four : (a b c d : Bool) → IsTrue a → IsTrue b → IsTrue c → IsTrue d → ((a && b) && (c && d)) ≡ true
 from_four a b c d p q r s = and_from _ _ (and_from _ _ p q) (and_from _ _ r s)
 
+-- what a direction, or none, says of the sides of a box
+abbrev pub Says : List BoxShape → List BoxShape → BoxShape → Option Bool → Type 0
+Says terminals diffusion b (Some upright) = HasSides terminals diffusion upright b
+Says terminals diffusion b None = HasSomeSides terminals diffusion b → ⊥
+
 module _ (terminals diffusion : List BoxShape) (b : BoxShape) (held free : Sides) (h : AreSides terminals diffusion b held free) where
   upright_from : HasSides terminals diffusion true b → ((held.above && held.below) && (free.left && free.right)) ≡ true
   upright_from s = from_four _ _ _ _ (h.held_above.1 s.0) (h.held_below.1 s.1) (h.free_left.1 s.2) (h.free_right.1 s.3)
@@ -158,11 +163,10 @@ module _ (terminals diffusion : List BoxShape) (b : BoxShape) (held free : Sides
   lying_from s = from_four _ _ _ _ (h.held_left.1 s.0) (h.held_right.1 s.1) (h.free_above.1 s.2) (h.free_below.1 s.3)
 
   abbrev Told : Option Bool → Type 0
-  Told (Some upright) = HasSides terminals diffusion upright b
-  Told None = HasSomeSides terminals diffusion b → ⊥
+  Told = Says terminals diffusion b
 
-  told : Told (direction held free)
-  told = by_first ((held.above && held.below) && (free.left && free.right)) refl ((held.left && held.right) && (free.above && free.below)) refl
+  pub told_way : Told (direction held free)
+  told_way = by_first ((held.above && held.below) && (free.left && free.right)) refl ((held.left && held.right) && (free.above && free.below)) refl
     where
       by_first : (t : Bool) → ((held.above && held.below) && (free.left && free.right)) ≡ t → (u : Bool)
           → ((held.left && held.right) && (free.above && free.below)) ≡ u → Told (if t then Some true else if u then Some false else None)
@@ -175,10 +179,10 @@ module _ (terminals diffusion : List BoxShape) (b : BoxShape) (held free : Sides
           by_way (false, s) = let t = lying_from s in absurd (cc)
 
   pub some_sides : (upright : Bool) → Some upright ≡ direction held free → HasSides terminals diffusion upright b
-  some_sides upright e = subst Told (sym e) told
+  some_sides upright e = subst Told (sym e) told_way
 
   pub no_sides : None ≡ direction held free → HasSomeSides terminals diffusion b → ⊥
-  no_sides e = subst Told (sym e) told
+  no_sides e = subst Told (sym e) told_way
 
 -- the same of lists that are others
 pub same_channels : (bs m : List BoxShape) (ds depletion : List Bool) (diffusion terminals : List BoxShape) (channels : List Channel) → bs ≡ m

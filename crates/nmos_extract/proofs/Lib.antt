@@ -15,9 +15,13 @@ pub mod Freed
 pub mod Judged
 pub mod Boxed
 pub mod Firsts
+pub mod Filled
+pub mod Sided
 pub mod Ended
+pub mod BoxTransistors
 pub mod Ordered
 pub mod Asked
 pub mod Parts
 pub mod Told
 pub mod Faults
+pub mod BoxClasses

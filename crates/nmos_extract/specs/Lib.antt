@@ -1,4 +1,6 @@
 pub mod Layers
+pub mod Components
+pub mod Transistors
 pub mod Terminals
 pub mod Conducting
 pub mod Links

@@ -80,7 +80,7 @@ fn with_terminals(
 }
 
 /// The channel of the box.
-fn channel_of(upright: bool, depletion: bool, b: &Box2) -> Channel
+pub(crate) fn channel_of(upright: bool, depletion: bool, b: &Box2) -> Channel
     ensures { result ≡ channel_of upright depletion b.now }
 {
     Channel {

@@ -12,7 +12,7 @@ use std::alloc::Global;
 
 /// The squares that each layer covers.
 #[derive(Drop)]
-pub(crate) struct Layers {
+pub struct Layers {
     pub diffusion: Canonical,
     pub poly: Canonical,
     pub metal: Canonical,
@@ -25,7 +25,7 @@ pub(crate) struct Layers {
 /// # Errors
 ///
 /// `NoMemory` where an allocation was refused.
-pub(crate) fn layers_of(alloc: Global, boxes: &[Box2]) -> Result<Layers, NoMemory>
+pub fn layers_of(alloc: Global, boxes: &[Box2]) -> Result<Layers, NoMemory>
     ensures { IfOk result (AreLayers (Covered boxes.now)) }
 {
     let merged = merge_runs(alloc, boxes)?;

@@ -54,7 +54,7 @@ pub(crate) fn links_of(
 }
 
 /// Adds a link for each two boxes of the set that touch. The node of its first box is `first`.
-fn add_touches(
+pub(crate) fn add_touches(
     alloc: Global,
     set: &Canonical,
     first: u32,

@@ -24,7 +24,7 @@ use std::marker::Model;
 
 /// The nets of a drawing, numbered from 0, and the net of each conducting square.
 #[derive(Drop)]
-pub(crate) struct Nets<'a> {
+pub struct Nets<'a> {
     conductors: Conductors<'a>,
     classes: Classes,
 }
@@ -46,7 +46,7 @@ impl<'a> Model for Nets<'a> {
 ///
 /// `NoMemory` where an allocation was refused. The list of the classes has an entry for each box, and no list of 2^32 entries is
 /// granted.
-pub(crate) fn nets_of<'a>(
+pub fn nets_of<'a>(
     alloc: Global,
     layers: &'a Layers,
     terminals: &'a Canonical,
@@ -69,7 +69,7 @@ pub(crate) fn nets_of<'a>(
 
 impl Nets<'_> {
     /// How many nets there are.
-    pub(crate) fn count(&self) -> u32
+    pub fn count(&self) -> u32
         ensures { result ≡ net_count self.now }
     {
         self.classes.firsts().len() as u32

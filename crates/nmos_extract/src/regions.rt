@@ -17,8 +17,8 @@ use std::alloc::Global;
 /// Whether each box lies wholly under implant, or wholly beside it.
 #[derive(Drop)]
 pub(crate) struct Covers {
-    under: Vec<bool>,
-    beside: Vec<bool>,
+    pub under: Vec<bool>,
+    pub beside: Vec<bool>,
 }
 
 /// For each box of these squares of channels, which is then a region of its own, whether it lies under implant.
@@ -69,7 +69,7 @@ fn tops_of(alloc: Global, squares: &Canonical) -> Result<Vec<bool>, NoMemory>
 }
 
 /// Whether each box lies wholly under implant, or wholly beside it.
-fn covers_of(alloc: Global, squares: &Canonical, implant: &Canonical) -> Result<Covers, NoMemory>
+pub(crate) fn covers_of(alloc: Global, squares: &Canonical, implant: &Canonical) -> Result<Covers, NoMemory>
     ensures { IfOk result (AreCovers squares.now implant.now) }
 {
     let boxes = squares.boxes();

@@ -21,10 +21,10 @@ pub(crate) struct Lines {
 /// What there is of the lines beside one box.
 #[derive(Clone, Copy, Debug, PartialEq, Eq)]
 pub(crate) struct Sides {
-    above: bool,
-    below: bool,
-    left: bool,
-    right: bool,
+    pub above: bool,
+    pub below: bool,
+    pub left: bool,
+    pub right: bool,
 }
 
 /// Whether the set has all squares of the lines beside each of the boxes.

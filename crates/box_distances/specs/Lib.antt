@@ -1,0 +1,3 @@
+-- Definitions that public contracts cite:
+pub mod Near
+pub mod Narrow
