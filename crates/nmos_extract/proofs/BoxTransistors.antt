@@ -142,8 +142,9 @@ module _ (numbered : AreNumbered) (runs : BoxesAreRuns) (by_touches : SquaresLea
       let low : c.y1 ≡ b.y1 = e.bottom in
       let top : c.y2 ≡ b.y2 = e.top in
       let all : (x1 y1 x2 y2 : ℤ) (v w : Bool) → x1 ≡ b.x1 → y1 ≡ b.y1 → x2 ≡ b.x2 → y2 ≡ b.y2 → v ≡ u → w ≡ d
-          → made_of x1 y1 x2 y2 v w ≡ channel_of u d b = (λ x1 y1 x2 y2 v w p q s t f g. rw (p, q, s, t, f, g) refl) in
+      → made_of x1 y1 x2 y2 v w ≡ channel_of u d b = (λ x1 y1 x2 y2 v w p q s t f g. rw (p, q, s, t, f, g) refl) in
       all c.x1 c.y1 c.x2 c.y2 c.upright c.depletion l low r top f g
+
   yes : (u d : Bool) → Alone → IsCovered implant d b → HasSides terminals diffusion u b → IsTransistorAt Drawn b (Some (channel_of u d b))
   yes u d alone covered sides = (
     record { across = refl; upward = refl },

@@ -69,7 +69,11 @@ fn tops_of(alloc: Global, squares: &Canonical) -> Result<Vec<bool>, NoMemory>
 }
 
 /// Whether each box lies wholly under implant, or wholly beside it.
-pub(crate) fn covers_of(alloc: Global, squares: &Canonical, implant: &Canonical) -> Result<Covers, NoMemory>
+pub(crate) fn covers_of(
+    alloc: Global,
+    squares: &Canonical,
+    implant: &Canonical,
+) -> Result<Covers, NoMemory>
     ensures { IfOk result (AreCovers squares.now implant.now) }
 {
     let boxes = squares.boxes();
