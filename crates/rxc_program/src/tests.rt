@@ -169,8 +169,11 @@ fn large_reports_come_out(rt: HostRuntime) -> Result<(), Fail> {
     rows_come_out(&rt, rt.alloc(), LARGE_REPORT_ROWS)
 }
 
-/// The width and the height in lambda of the box of whole tiles round all that the text draws.
+/// The width and the height in lambda of the box of whole tiles round all that the text draws, which is not large.
 fn drawn_sides(alloc: Global, text: &[u8]) -> Option<(i64, i64)> {
+    if text.len() > 1 << 24 {
+        return None;
+    }
     let drawing = read_cif(alloc, text).ok()?;
     let boxes = flatten(alloc, &drawing).ok()?.boxes;
     let (mut west, mut south) = (i64::MAX, i64::MAX);
