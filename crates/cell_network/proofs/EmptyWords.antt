@@ -3,7 +3,7 @@ use Rattle.std.proofs.Common.{◌≡◌, ◌⊎◌, ◌↔◌, ℕ, Bool, true, 
 use Rattle.rx_lang.specs.Meaning.{Cut, Many}
 use Rattle.star_normal.specs.Trees.{Flags, FlaggedTree, leaf, seq, alt, flags, Turns, Words, Letter, TreeSpells}
 use Rattle.star_normal.specs.Shapes.{IsExact}
-use Rattle.star_normal.proofs.Langs.{cut_nil, cut_now, many_nil}
+use Rattle.cell_network.proofs.Words.{cut_nil, cut_now, many_nil}
 
 or_empty : (P Q R S : Type 0) → (P → R) → (Q → S) → P ⊎ Q → R ⊎ S
 or_empty P Q R S f g (inl p) = inl (f p)

@@ -22,6 +22,7 @@ pub mod Outputs
 pub mod Shown
 pub mod Clears
 pub mod Meetings
+pub mod Words
 pub mod Prefixes
 pub mod NodeWords
 pub mod EmptyWords

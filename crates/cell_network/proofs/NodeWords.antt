@@ -2,8 +2,8 @@
 use Rattle.std.proofs.Common.{◌≡◌, ◌≢◌, ◌⊎◌, ◌↔◌, ℕ, Bool, true, false, IsTrue, List, [], ◌∷◌, ◌++◌, refl, sym, ap, ◌∙◌, subst, inl, inr}
 use Rattle.rx_lang.specs.Meaning.{Cut, Many}
 use Rattle.star_normal.specs.Trees.{Flags, Turns, Starts, Inside, Words, Ends, Letter}
-use Rattle.star_normal.proofs.Langs.{Last, full_rest, cut_map, cut_now, cut_end, many_nil, many_then, plus_many, many_plus, many_last}
 use Rattle.cell_network.proofs.Prefixes.{iff_refl, iff_sym, iff_trans, iff_or, iff_swap, Full, Begins, cut_assoc, cut_under, cut_or, cut_when, cut_first, cut_last}
+use Rattle.cell_network.proofs.Words.{Last, full_rest, cut_map, cut_now, cut_end, many_nil, many_then, plus_many, many_plus, many_last}
 
 module _ {X : Type 0} where
   -- A word of one or more turns has a last turn that is not empty.

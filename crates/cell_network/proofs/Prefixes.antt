@@ -4,7 +4,7 @@ use Rattle.std.proofs.lemmas.Bool.{or_cases, or_left, or_right, and_parts, and_f
 use Rattle.std.proofs.lemmas.List.{append-nil}
 use Rattle.rx_lang.specs.Meaning.{Cut}
 use Rattle.star_normal.specs.Trees.{Starts}
-use Rattle.star_normal.proofs.Langs.{full_rest, empty_or_full, cut_map, cut_now, cut_end}
+use Rattle.cell_network.proofs.Words.{full_rest, empty_or_full, cut_map, cut_now, cut_end}
 
 -- Equivalences.
 

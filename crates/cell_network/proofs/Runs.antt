@@ -9,7 +9,6 @@ use Rattle.rx_lang.specs.Copies.{IsItself}
 use Rattle.star_normal.specs.Shapes.{IsExact, IsUnmarked, NeverScans, ScansAtTop, HasOneScan}
 use Rattle.star_normal.specs.declared.node.Node.{Node}
 use Rattle.star_normal.specs.Tables.{TreeTable, IsTree, flags_of, whole}
-use Rattle.star_normal.proofs.Langs.{full_rest}
 use Rattle.cell_network.specs.Cells.{CellValues, AlternativeCells, pulls, AreCells, StartCells, NextCells, CellClocks, CellRun, SomeCellPulls}
 use Rattle.cell_network.specs.Laws.{SpellsFull, EndsWord, RootTellsWords, PullsTellMarks}
 use Rattle.cell_network.proofs.Prefixes.{iff_swap, iff_refl, iff_sym, iff_trans, iff_or, or_tells, same_tells, Full, cut_first}
@@ -19,6 +18,7 @@ use Rattle.cell_network.proofs.Placed.{Placed, leaf_at, seq_at, alt_at, number, 
 use Rattle.cell_network.proofs.Pulling.{Pulls, node_pulls, tree_pulls}
 use Rattle.cell_network.proofs.TreeCells.{Spells, Started, Stored, Led, led, never_at_top, out_tells, next_stored, pulls_tell}
 use Rattle.cell_network.proofs.TablePlaces.{whole_tree, has_all}
+use Rattle.cell_network.proofs.Words.{full_rest}
 
 -- the prefixes that lead to a node: the empty word, or all where it scans
 abbrev pub From : {X : Type 0} → Bool → List X → Type 0

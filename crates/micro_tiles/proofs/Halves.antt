@@ -9,11 +9,10 @@ use Rattle.micro_tiles.specs.declared.device.Mode.{Mode}
 use Rattle.micro_tiles.specs.declared.device.Mode.TheVariants.{Enhancement, Depletion}
 use Rattle.micro_tiles.specs.declared.device.Transistor.{Transistor}
 use Rattle.geom.specs.Conduction.{ShareSide, Conducts, Leads}
-use Rattle.geom.proofs.Joins.{share_back}
 use Rattle.micro_tiles.specs.Nets.{in_first_half}
 use Rattle.micro_tiles.specs.Table.{is_transpose, design_of, boxes, transistor_at}
 use Rattle.micro_tiles.proofs.BoxTests.{each, some, holds, avoids, filled, clear, enclosed}
-use Rattle.micro_tiles.proofs.Paths.{through}
+use Rattle.micro_tiles.proofs.Paths.{through, share_back}
 use Rattle.micro_tiles.specs.Regions.{channel_box}
 use Rattle.micro_tiles.proofs.RegionFacts.{le_is, le_not, lt_is, lt_not, passed, whole}
 

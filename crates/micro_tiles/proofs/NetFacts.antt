@@ -14,7 +14,6 @@ use Rattle.micro_tiles.specs.Boxes.{cut}
 use Rattle.geom.specs.Conduction.{ShareSide, Leads, Spot, Conducts, IsJoin, Joined}
 use Rattle.geom.specs.Conduction.Joined.{here, step}
 use Rattle.geom.specs.Conduction.Leads.{here, step}
-use Rattle.geom.proofs.Joins.{chain}
 use Rattle.micro_tiles.specs.Nets.{in_first_half, layer_net, square_net, NumbersAreNets}
 use Rattle.micro_tiles.specs.Shapes.{contact, IsContact}
 use Rattle.micro_tiles.specs.Table.{is_transpose, design_of, boxes, transistor_at}
@@ -27,6 +26,11 @@ use Rattle.micro_tiles.proofs.Halves.{diffusion_step, diffusion_path}
 
 abbrev spot : Layer → ℤ → ℤ → Spot
 spot layer x y = record { layer = layer; x = x; y = y }
+
+-- a path and another from its end
+chain : (bs : List BoxShape) (a b c : Spot) → Joined (Covered bs) a b → Joined (Covered bs) b c → Joined (Covered bs) a c
+chain bs _ _ c (here a) rest = rest
+chain bs _ _ c (step a m b join conducts path) rest = step a m c join conducts (chain bs m b c path rest)
 
 -- A path of squares that conduct in a layer joins its ends.
 lift : (bs : List BoxShape) (S : Squares) (layer : Layer) → ((x y : ℤ) → S x y → Conducts (Covered bs) layer x y)
@@ -93,10 +97,10 @@ module _ (tile : ℕ) (below : tile < 55) (cuts : has_cut (design_of tile) ≡ t
   -- each conducting square is joined with the metal in the middle, and back
   to_middle : (layer : Layer) (x y : ℤ) → Conducts (Covered (boxes tile)) layer x y → Joined (Covered (boxes tile)) (spot layer x y) (spot Metal (pos 6) (pos 6))
   to_middle Metal x y c = lift (boxes tile) (λ u v. Covered (boxes tile) Metal u v) Metal (λ u v h. h) x y (pos 6) (pos 6) (layer_shape tile Metal below x y (pos 6) (pos 6) c middle_metal)
-  to_middle Poly x y c = chain (Covered (boxes tile)) (spot Poly x y) (spot Poly (pos 6) (pos 6)) (spot Metal (pos 6) (pos 6))
+  to_middle Poly x y c = chain (boxes tile) (spot Poly x y) (spot Poly (pos 6) (pos 6)) (spot Metal (pos 6) (pos 6))
       (lift (boxes tile) (λ u v. Covered (boxes tile) Poly u v) Poly (λ u v h. h) x y (pos 6) (pos 6) (layer_shape tile Poly below x y (pos 6) (pos 6) c (middle_poly x y c)))
       (step (spot Poly (pos 6) (pos 6)) (spot Metal (pos 6) (pos 6)) (spot Metal (pos 6) (pos 6)) (inr (refl, refl, middle_cut)) middle_metal (here (spot Metal (pos 6) (pos 6))))
-  to_middle Diffusion x y c = chain (Covered (boxes tile)) (spot Diffusion x y) (spot Diffusion (pos 6) (pos 6)) (spot Metal (pos 6) (pos 6))
+  to_middle Diffusion x y c = chain (boxes tile) (spot Diffusion x y) (spot Diffusion (pos 6) (pos 6)) (spot Metal (pos 6) (pos 6))
       (lift (boxes tile) (λ u v. Covered (boxes tile) Diffusion u v) Diffusion bare x y (pos 6) (pos 6) (layer_shape tile Diffusion below x y (pos 6) (pos 6) c.0 (middle_diffusion x y c.0)))
       (step (spot Diffusion (pos 6) (pos 6)) (spot Metal (pos 6) (pos 6)) (spot Metal (pos 6) (pos 6)) (inr (refl, refl, middle_cut)) middle_metal (here (spot Metal (pos 6) (pos 6))))
   to_middle Cut x y c = absurd c
@@ -112,7 +116,7 @@ module _ (tile : ℕ) (below : tile < 55) (cuts : has_cut (design_of tile) ≡ t
   from_middle Implant x y c = absurd c
 
   one_net : (a b : Spot) → Conducts (Covered (boxes tile)) a.layer a.x a.y → Conducts (Covered (boxes tile)) b.layer b.x b.y → Joined (Covered (boxes tile)) a b
-  one_net a b c d = chain (Covered (boxes tile)) a (spot Metal (pos 6) (pos 6)) b (to_middle a.layer a.x a.y c) (from_middle b.layer b.x b.y d)
+  one_net a b c d = chain (boxes tile) a (spot Metal (pos 6) (pos 6)) b (to_middle a.layer a.x a.y c) (from_middle b.layer b.x b.y d)
 
 -- ---- a tile without a cut has a net for each layer, and two of diffusion
 

@@ -8,13 +8,19 @@ use Rattle.geom.specs.Squares.{BoxShape, Inside, Covered}
 use Rattle.geom.specs.Rows.{Squares, Among}
 use Rattle.geom.specs.Conduction.{IsNext, ShareSide, Leads, IsOneClass}
 use Rattle.geom.specs.Conduction.Leads.{here, step}
-use Rattle.geom.proofs.Joins.{share_back}
 use Rattle.micro_tiles.proofs.BoxTests.{le_true, each, some, each_at, some_at, over, covered}
 
 -- a path and another from its end
 pub chain : (S : Squares) (x y u v s t : ℤ) → Leads S x y u v → Leads S u v s t → Leads S x y s t
 chain S _ _ _ _ s t (here x y) q = q
 chain S _ _ _ _ s t (step x y a b u v side member p) q = step x y a b s t side member (chain S a b u v s t p q)
+
+next_back : (a b : ℤ) → IsNext a b → IsNext b a
+next_back a b h = elim h [ inl e ↦ inr e | inr e ↦ inl e ]
+
+-- A side is shared both ways.
+pub share_back : (x y u v : ℤ) → ShareSide x y u v → ShareSide u v x y
+share_back x y u v h = elim h [ inl up ↦ inl (sym up.0, next_back y v up.1) | inr level ↦ inr (sym level.0, next_back x u level.1) ]
 
 -- no step
 still : (S : Squares) (x y s t : ℤ) → x ≡ s → y ≡ t → Leads S x y s t

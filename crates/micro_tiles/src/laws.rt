@@ -1,6 +1,14 @@
 //! Facts of every tile of the table, from which all rules between neighbouring tiles follow. Each is the contract of a
 //! function that runs nothing.
 
+ghost use Rattle.std.specs.Prelude.{◌≡◌, ◌↔◌, ℕ, ℤ, true};
+ghost use Rattle.geom.specs.declared.layer.Layer.{Layer};
+ghost use Rattle.geom.specs.Squares.{Covered};
+ghost use Rattle.geom.specs.Conduction.{Conducts};
+ghost use Rattle.micro_tiles.specs.declared.side.Port.{Port};
+ghost use Rattle.micro_tiles.specs.Conducting.{conducts};
+ghost use Rattle.micro_tiles.specs.Sides.{Carries, carries};
+ghost use Rattle.micro_tiles.specs.Table.{boxes};
 ghost use Rattle.micro_tiles.specs.Basics.{BasicTilesAreNamed};
 ghost use Rattle.micro_tiles.specs.Strips.{TilesHaveStrips, PortsLeadOut};
 ghost use Rattle.micro_tiles.specs.Shapes.{TilesHaveWideBoxes, CutsAreContacts, TilesKeepInside, TilesHaveOneShape, PolyAvoidsDiffusion};
@@ -54,4 +62,10 @@ pub fn numbers_are_nets()
 /// The transpose of a tile is its mirror image.
 pub fn transposes_are_mirrored()
     ensures { TransposesAreMirrored }
+{}
+
+/// The tests of tiles tell what they ask: whether a square conducts, and whether a port carries a layer.
+pub fn tests_tell()
+    ensures conducts { (tile : ℕ) (layer : Layer) (x y : ℤ) → (conducts tile layer x y ≡ true) ↔ Conducts (Covered (boxes tile)) layer x y }
+    ensures carries { (port : Port) (layer : Layer) → (carries port layer ≡ true) ↔ Carries port layer }
 {}

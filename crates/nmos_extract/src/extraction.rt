@@ -10,7 +10,7 @@ use crate::layers::layers_of;
 use crate::nets::nets_of;
 use canonical_boxes::without;
 use geom::{Box2, Label};
-use nmos_model::laws::known_boxes_are_judged;
+use nmos_model::laws::known_drawings_are_judged;
 use nmos_model::{ReadChipFault, network_by_sites};
 use std::alloc::Global;
 use switch_net::Network;
@@ -26,7 +26,7 @@ pub fn extract(alloc: Global, boxes: &[Box2], labels: &[Label]) -> Result<Networ
     ensures network { IfOk result (StandsFor (Covered boxes.now) labels.now) }
     ensures fault { IfErr result (IsRefusedBy (Covered boxes.now) labels.now) }
 {
-    known_boxes_are_judged();
+    known_drawings_are_judged::<Vec<Box2>>();
     let layers = layers_of(alloc, boxes)?;
     let terminals = without(alloc, &layers.diffusion, &layers.poly)?;
     let channels = channels_of(alloc, &layers, &terminals)?;

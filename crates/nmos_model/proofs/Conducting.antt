@@ -10,14 +10,20 @@ use Rattle.nmos_model.specs.Classes.{IsGraph, Linked, Reaches}
 use Rattle.nmos_model.specs.Classes.Reaches.{here, step}
 use Rattle.geom.specs.Conduction.{Drawing, ShareSide, Spot, Conducts, IsJoin, Joined}
 use Rattle.geom.specs.Conduction.Joined.{here, step}
-use Rattle.geom.proofs.Joins.{join_back}
 use Rattle.nmos_model.specs.Conductors.{Squares, is_node, links, other_layer, conducts, layer_of}
 use Rattle.nmos_model.specs.NetMaps.{conductor}
 use Rattle.nmos_model.specs.Rasters.{StandsAt, IsInner, Shows, cover_at, number_of}
 use Rattle.nmos_model.proofs.Neighbours.Neighbour.{west, east, south, north, first_under, second_under}
 use Rattle.nmos_model.proofs.Neighbours.{Neighbour, neighbours, linked, neighbour_back, node_within}
-use Rattle.nmos_model.proofs.Places.{one_place, stands_at, stands_once, number_is, east_side, north_side, side_numbers}
+use Rattle.nmos_model.proofs.Places.{one_place, side_back, stands_at, stands_once, number_is, east_side, north_side, side_numbers}
 use Rattle.nmos_model.proofs.Common.{same_or_apart}
+
+-- Joined spots are joined both ways.
+join_back : (Drawn : Drawing) (a b : Spot) → IsJoin Drawn a b → IsJoin Drawn b a
+join_back Drawn a b join = elim join [
+  | inl within ↦ inl (sym within.0, side_back a.x a.y b.x b.y within.1)
+  | inr under ↦ inr (sym under.0, sym under.1, rw (← under.0, ← under.1) under.2)
+]
 
 -- the number of a layer among those of a square
 abbrev pub index : Layer → ℕ

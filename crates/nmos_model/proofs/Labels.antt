@@ -4,21 +4,21 @@ use Rattle.std.proofs.lemmas.List.{append_assoc}
 use Rattle.geom.specs.declared.chip.Label.{Label}
 use Rattle.geom.specs.Rows.{Among}
 use Rattle.geom.specs.Conduction.{Drawing, Conducts, Joined}
-use Rattle.geom.proofs.Lists.{among_left, among_right}
 use Rattle.nmos_model.specs.Nets.{AreNets}
 use Rattle.nmos_model.specs.Pads.{NetAt, label_net, AreSound, StandsOnNothing, Disagrees, IsFirstLabel, NoLabel}
 use Rattle.nmos_model.specs.Refusals.{HasNames, spot_of}
 use Rattle.nmos_model.specs.Refusals as drawing
 use Rattle.nmos_model.specs.Unsound.{AreBelow}
 use Rattle.nmos_model.proofs.Common.{inside}
+use Rattle.nmos_model.proofs.Matching.{among_cut, among_front}
 
 -- ---- cuts of lists
 
 pub cut_at : {X : Type 0} (xs before after : List X) (one : X) → xs ≡ before ++ one ∷ after → Among xs one
-cut_at {X} xs before after one e = subst (λ (l : List X). Among l one) (sym e) (among_right before (one ∷ after) one (inl refl))
+cut_at {X} xs before after one e = subst (λ (l : List X). Among l one) (sym e) (among_cut before after one)
 
 pub cut_before : {X : Type 0} (xs before after : List X) (one c : X) → xs ≡ before ++ one ∷ after → Among before c → Among xs c
-cut_before {X} xs before after one c e h = subst (λ (l : List X). Among l c) (sym e) (among_left before (one ∷ after) c h)
+cut_before {X} xs before after one c e h = subst (λ (l : List X). Among l c) (sym e) (among_front before (one ∷ after) c h)
 
 -- a cut of the front of a cut is a cut of the whole
 pub cut_twice : {X : Type 0} (xs front rest before after : List X) (last one : X)

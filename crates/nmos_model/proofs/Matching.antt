@@ -48,6 +48,15 @@ module _ {X : Type 0} where
   among_front (x ∷ before) after one (inl e) = inl e
   among_front (x ∷ before) after one (inr w) = inr (among_front before after one w)
 
+  pub among_behind : (before after : List X) (one : X) → Among after one → Among (before ++ after) one
+  among_behind [] after one w = w
+  among_behind (x ∷ before) after one w = inr (among_behind before after one w)
+
+  pub among_sides : (before after : List X) (one : X) → Among (before ++ after) one → Among before one ⊎ Among after one
+  among_sides [] after one w = inr w
+  among_sides (x ∷ before) after one (inl e) = inl (inl e)
+  among_sides (x ∷ before) after one (inr w) = elim (among_sides before after one w) [ inl v ↦ inl (inr v) | inr v ↦ inr v ]
+
   pub among_get : (xs : List X) (i : ℕ) (d : X) → i < length xs → Among xs (get_or xs i d)
   among_get [] i d lt = absurd (omega arith)
   among_get (x ∷ xs) zero d lt = inl refl

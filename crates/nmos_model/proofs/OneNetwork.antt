@@ -6,7 +6,6 @@ use Rattle.geom.specs.declared.chip.Label.{Label}
 use Rattle.geom.specs.Squares.{Inside}
 use Rattle.geom.specs.Rows.{Among, Pairwise}
 use Rattle.geom.specs.Conduction.{Drawing, Conducts, Spot}
-use Rattle.geom.proofs.Lists.{among_cases, among_left, among_right}
 use Rattle.switch_net.specs.Circuit.{Circuit, IsSameNetwork, renamed_pad, renamed_device, ascending}
 use Rattle.switch_net.specs.declared.network.Pad.{Pad}
 use Rattle.switch_net.specs.declared.network.Device.{Device}
@@ -22,6 +21,7 @@ use Rattle.nmos_model.proofs.Common.{inside}
 use Rattle.nmos_model.proofs.Beginnings.{corner}
 use Rattle.nmos_model.proofs.Labels.{below, cut_of}
 use Rattle.nmos_model.proofs.Loads.{listed, one_supply}
+use Rattle.nmos_model.proofs.Matching.{among_cut, among_front, among_behind, among_sides}
 use Rattle.nmos_model.proofs.Circuits.{supply_net}
 
 -- ---- lists of the same channels
@@ -32,13 +32,13 @@ Differ cs = Pairwise (λ c d. c ≢ d) cs
 drop_middle : (before after : List Channel) (x : Channel) → Differ (before ++ x ∷ after) → Differ (before ++ after)
 drop_middle [] after x d = d.1
 drop_middle (b ∷ before) after x d = (
-  (λ c h. elim (among_cases before after c h) [ inl i ↦ d.0 c (among_left before (x ∷ after) c i) | inr i ↦ d.0 c (among_right before (x ∷ after) c (inr i)) ]),
+  (λ c h. elim (among_sides before after c h) [ inl i ↦ d.0 c (among_front before (x ∷ after) c i) | inr i ↦ d.0 c (among_behind before (x ∷ after) c (inr i)) ]),
   drop_middle before after x d.1,
 )
 
 apart_from : (before after : List Channel) (x c : Channel) → Differ (before ++ x ∷ after) → Among (before ++ after) c → x ≢ c
 apart_from [] after x c d h = d.0 c h
-apart_from (b ∷ before) after x c d (inl same) = λ e. d.0 x (among_right before (x ∷ after) x (inl refl)) (same ∙ sym e)
+apart_from (b ∷ before) after x c d (inl same) = λ e. d.0 x (among_cut before after x) (same ∙ sym e)
 apart_from (b ∷ before) after x c d (inr h) = apart_from before after x c d.1 h
 
 same_members : (xs ys : List Channel) → Differ xs → Differ ys → ((c : Channel) → Among xs c → Among ys c) → ((c : Channel) → Among ys c → Among xs c) → IsPermutation xs ys
@@ -50,12 +50,12 @@ same_members (x ∷ xs) ys dx dy f g =
     let after = cut.1 in
     let there : Differ (before ++ x ∷ after) = subst Differ cut.2 dy in
     let rest = same_members xs (before ++ after) dx.1 (drop_middle before after x there)
-    (λ c h. elim (among_cases before (x ∷ after) c (subst (λ l. Among l c) cut.2 (f c (inr h)))) [
-      | inl i ↦ among_left before after c i
-      | inr i ↦ elim i [ inl same ↦ absurd (dx.0 c h same) | inr j ↦ among_right before after c j ]
+    (λ c h. elim (among_sides before (x ∷ after) c (subst (λ l. Among l c) cut.2 (f c (inr h)))) [
+      | inl i ↦ among_front before after c i
+      | inr i ↦ elim i [ inl same ↦ absurd (dx.0 c h same) | inr j ↦ among_behind before after c j ]
     ])
     (λ c h.
-    let in_ys = subst (λ l. Among l c) (sym cut.2) (elim (among_cases before after c h) [ inl i ↦ among_left before (x ∷ after) c i | inr i ↦ among_right before (x ∷ after) c (inr i) ]) in
+    let in_ys = subst (λ l. Among l c) (sym cut.2) (elim (among_sides before after c h) [ inl i ↦ among_front before (x ∷ after) c i | inr i ↦ among_behind before (x ∷ after) c (inr i) ]) in
     elim (g c in_ys) [ inl same ↦ absurd (apart_from before after x c there h same) | inr i ↦ i ]) in
     subst (IsPermutation (x ∷ xs)) (sym cut.2)
     (IsPermutation-trans (x ∷ xs) (x ∷ (before ++ after)) (before ++ x ∷ after) (IsPermutation-cons x xs (before ++ after) rest)

@@ -1,9 +1,7 @@
 //! What drawings and labels stand for, and how they are refused.
 
-ghost use Rattle.std.specs.Prelude.{List};
-ghost use Rattle.geom.specs.Squares.{BoxShape};
 ghost use Rattle.nmos_model.specs.Alike.{RefusedAlike, StandAlike};
-ghost use Rattle.nmos_model.specs.Judging.{AreJudged};
+ghost use Rattle.nmos_model.specs.Judging.{IsJudged};
 ghost use Rattle.nmos_model.specs.Refusals.{NeverBoth, RefusedOnce, StandForOne};
 
 use crate::drawn::Drawn;
@@ -22,7 +20,8 @@ pub fn equal_drawings_are_alike<D: Drawn, E: Drawn>()
     ensures refusals { (drawn : D) (other : E) → RefusedAlike (D.covers drawn) (E.covers other) }
 {}
 
-/// Boxes whose nets and channels are known stand for what these and their labels connect, and are refused for what is unsound in them.
-pub fn known_boxes_are_judged()
-    ensures { (boxes : List BoxShape) → AreJudged boxes }
+/// A drawing whose nets and channels are known stands for what these and its labels connect, and is refused for what is unsound in
+/// them.
+pub fn known_drawings_are_judged<D: Drawn>()
+    ensures { (drawn : D) → IsJudged (D.covers drawn) }
 {}

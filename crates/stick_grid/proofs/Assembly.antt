@@ -4,7 +4,6 @@ use Rattle.std.proofs.lemmas.Int.{ints}
 use Rattle.geom.specs.Squares.{Covered}
 use Rattle.geom.specs.Conduction.{Spot, Conducts, IsJoin, Joined}
 use Rattle.geom.specs.Conduction.Joined.{here, step}
-use Rattle.geom.proofs.Joins.{join_back, chain}
 use Rattle.micro_tiles.specs.declared.side.Side.{Side}
 use Rattle.micro_tiles.specs.declared.side.Side.TheVariants.{North, East, South, West}
 use Rattle.micro_tiles.specs.Sides.{Carries}
@@ -12,11 +11,11 @@ use Rattle.micro_tiles.specs.Designs.{side_net}
 use Rattle.micro_tiles.specs.Nets.{square_net}
 use Rattle.micro_tiles.specs.Strips.{behind_x, behind_y}
 use Rattle.micro_tiles.specs.Table.{boxes, design_of, port_at}
-use Rattle.micro_tiles.proofs.NetFacts.{numbers_are_nets}
-use Rattle.micro_tiles.proofs.PortFacts.{ports_name_nets}
-use Rattle.stick_grid.specs.Plans.{Plan, IsPlan, Covers, local_x, local_y}
+use Rattle.stick_grid.specs.Plans.{Plan, Covers, local_x, local_y}
 use Rattle.stick_grid.specs.Pieces.{Piece, IsIn, MeetsAtEast, MeetsAtSouth, Connected, HasPieces, PlansHavePieces, SquaresAreNets}
+use Rattle.stick_grid.specs.TileFacts.{TileFacts}
 use Rattle.stick_grid.specs.Pieces.Connected.{same, east, west, south, north}
+use Rattle.stick_grid.proofs.Laid.{Laid, laid}
 use Rattle.stick_grid.proofs.Places.{LiesIn, lies_in, place_of, one_row, one_col, has_layer, conducts_here}
 use Rattle.stick_grid.proofs.Borders.{IsLed, is_led}
 use Rattle.stick_grid.proofs.Lifted.{local, lifted, join_within}
@@ -27,7 +26,12 @@ use Rattle.stick_grid.proofs.Neighbours.Neighbours.{together, east, west, south,
 same_piece : (p q : Piece) → p.row ≡ q.row → p.col ≡ q.col → p.net ≡ q.net → p ≡ q
 same_piece p q row col net = λ i. record { row = row i; col = col i; net = net i }
 
-module _ (plan : Plan) (known : IsPlan plan) where
+-- a path and another from its end
+chain : (plan : Plan) (a b c : Spot) → Joined (Covers plan) a b → Joined (Covers plan) b c → Joined (Covers plan) a c
+chain plan _ _ c (here a) rest = rest
+chain plan _ _ c (step a m b join conducts path) rest = step a m c join conducts (chain plan m b c path rest)
+
+module _ (plan : Plan) (known : Laid plan) where
   -- ---- pieces
 
   -- A square of a piece lies in the tile of the piece.
@@ -79,7 +83,7 @@ module _ (plan : Plan) (known : IsPlan plan) where
       let t = local plan p.row p.col b in
       let joined : Joined (Covered (boxes (plan.tile p.row p.col))) s t =
       step s t t (join_within plan known p.row p.col h.is_row h.is_col a b (in_tile a p h) join) to (here t) in
-      let numbers = (numbers_are_nets (plan.tile p.row p.col) s t (known.known p.row p.col h.is_row h.is_col) h.conducts to).1 joined in
+      let numbers = (known.facts.nets (plan.tile p.row p.col) s t (known.plan_is.known p.row p.col h.is_row h.is_col) h.conducts to).1 joined in
       same_piece p q row col (h.net ∙ numbers ∙ rw (row, col) (sym k.net))
 
   -- a square at a border is of the net that the side names
@@ -87,7 +91,7 @@ module _ (plan : Plan) (known : IsPlan plan) where
       → IsLed (plan.tile p.row p.col) side a.layer (local_x p.col a.x) (local_y plan p.row a.y)
   led a p side place h x y =
       let there : Conducts (Covered (boxes (plan.tile p.row p.col))) a.layer (behind_x side (pos 0) place) (behind_y side (pos 0) place) = rw (← x, ← y) h.conducts in
-      rw (x, y) (is_led (plan.tile p.row p.col) side (known.known p.row p.col h.is_row h.is_col) a.layer place there)
+      rw (x, y) (is_led known.facts (plan.tile p.row p.col) side (known.plan_is.known p.row p.col h.is_row h.is_col) a.layer place there)
 
   -- the nets of two squares on either side of a border meet there
   meets_at_east : (a b : Spot) (p q : Piece) → IsIn plan a p → IsIn plan b q → a.layer ≡ b.layer → AcrossEast p.row p.col q.row q.col a.x b.x → MeetsAtEast plan p q
@@ -153,7 +157,7 @@ module _ (plan : Plan) (known : IsPlan plan) where
   -- squares of one net of a tile
   within_piece : (a b : Spot) (p : Piece) → IsIn plan a p → IsIn plan b p → Joined (Covers plan) a b
   within_piece a b p h k = lifted plan known p.row p.col h.is_row h.is_col a b
-      ((numbers_are_nets (plan.tile p.row p.col) (local plan p.row p.col a) (local plan p.row p.col b) (known.known p.row p.col h.is_row h.is_col) h.conducts k.conducts).0
+      ((known.facts.nets (plan.tile p.row p.col) (local plan p.row p.col a) (local plan p.row p.col b) (known.plan_is.known p.row p.col h.is_row h.is_col) h.conducts k.conducts).0
       (sym h.net ∙ k.net))
 
   -- a square of each net, and the two share a side
@@ -163,13 +167,14 @@ module _ (plan : Plan) (known : IsPlan plan) where
     from : IsIn plan a p
     to : IsIn plan b q
     join : IsJoin (Covers plan) a b
+    back : IsJoin (Covers plan) b a
 
   -- what the side of a tile carries has a square at the border, of the net that the side names
   at_border : (p : Piece) (side : Side) (a : Spot) → p.row < plan.rows → p.col < plan.cols → Carries (port_at (plan.tile p.row p.col) side) a.layer
       → p.net ≡ side_net (design_of (plan.tile p.row p.col)) side a.layer
       → local_x p.col a.x ≡ behind_x side (pos 0) (pos 6) → local_y plan p.row a.y ≡ behind_y side (pos 0) (pos 6) → IsIn plan a p
   at_border p side a is_row is_col carried net x y =
-      let names = ports_name_nets (plan.tile p.row p.col) side a.layer (known.known p.row p.col is_row is_col) carried in
+      let names = known.facts.ports (plan.tile p.row p.col) side a.layer (known.plan_is.known p.row p.col is_row is_col) carried in
       record { is_row = is_row; is_col = is_col; conducts = rw (x, y) names.conducts; net = rw (x, y) (net ∙ names.number) }
 
   -- nets that meet have squares on either side of the border
@@ -182,13 +187,14 @@ module _ (plan : Plan) (known : IsPlan plan) where
       let row = m.row in
       let col = m.col in
       let is_col = m.is_col in
-      let meets = known.eastward p.row p.col m.is_row (omega arith) in
+      let meets = known.plan_is.eastward p.row p.col m.is_row (omega arith) in
       record {
         a = record { layer = layer; x = x; y = y };
         b = record { layer = layer; x = u; y = y };
         from = at_border p East (record { layer = layer; x = x; y = y }) m.is_row (omega arith) m.carried m.first (omega (arith, ints)) (omega (arith, ints));
         to = at_border q West (record { layer = layer; x = u; y = y }) (rw m.row m.is_row) m.is_col (rw (m.row, m.col, ← meets) m.carried) m.second (omega (arith, ints)) (omega (arith, ints));
         join = inl (refl, inr (refl, inl (omega (arith, ints))));
+        back = inl (refl, inr (refl, inr (omega (arith, ints))));
       }
 
   across_south : (p q : Piece) → MeetsAtSouth plan p q → Bridge p q
@@ -200,22 +206,23 @@ module _ (plan : Plan) (known : IsPlan plan) where
       let row = m.row in
       let col = m.col in
       let is_row = m.is_row in
-      let meets = known.southward p.row p.col (omega arith) m.is_col in
+      let meets = known.plan_is.southward p.row p.col (omega arith) m.is_col in
       record {
         a = record { layer = layer; x = x; y = y };
         b = record { layer = layer; x = x; y = v };
         from = at_border p South (record { layer = layer; x = x; y = y }) (omega arith) m.is_col m.carried m.first (omega (arith, ints)) (omega (arith, ints));
         to = at_border q North (record { layer = layer; x = x; y = v }) m.is_row (rw m.col m.is_col) (rw (m.row, m.col, ← meets) m.carried) m.second (omega (arith, ints)) (omega (arith, ints));
         join = inl (refl, inl (refl, inr (omega (arith, ints))));
+        back = inl (refl, inl (refl, inl (omega (arith, ints))));
       }
 
   -- from the second to the first
   turned : (p q : Piece) → Bridge p q → Bridge q p
-  turned p q bridge = record { a = bridge.b; b = bridge.a; from = bridge.to; to = bridge.from; join = join_back (Covers plan) bridge.a bridge.b bridge.join }
+  turned p q bridge = record { a = bridge.b; b = bridge.a; from = bridge.to; to = bridge.from; join = bridge.back; back = bridge.join }
 
   -- what is joined with the far end of a bridge is joined with every square of the near net
   over : (a c : Spot) (p q : Piece) (bridge : Bridge p q) → IsIn plan a p → Joined (Covers plan) bridge.b c → Joined (Covers plan) a c
-  over a c p q bridge h rest = chain (Covers plan) a bridge.a c (within_piece a bridge.a p h bridge.from)
+  over a c p q bridge h rest = chain plan a bridge.a c (within_piece a bridge.a p h bridge.from)
       (step bridge.a bridge.b c bridge.join (live bridge.b q bridge.to) rest)
 
   -- A path from net to net joins the squares of its ends.
@@ -228,8 +235,10 @@ module _ (plan : Plan) (known : IsPlan plan) where
 
 -- ---- both
 
-pub plans_have_pieces : PlansHavePieces
-plans_have_pieces = has_pieces
+pub plans_have_pieces : TileFacts → PlansHavePieces
+plans_have_pieces facts plan is = has_pieces plan (laid facts plan is)
 
-pub squares_are_nets : SquaresAreNets
-squares_are_nets plan a b p q known h k = (connected plan known a b p q h k, λ c. joined plan known p q c a b h k)
+pub squares_are_nets : TileFacts → SquaresAreNets
+squares_are_nets facts plan a b p q is h k =
+    let known = laid facts plan is in
+    (connected plan known a b p q h k, λ c. joined plan known p q c a b h k)

@@ -14,10 +14,7 @@ use Rattle.micro_tiles.specs.Nets.{square_net}
 use Rattle.micro_tiles.specs.Shapes.{IsInner}
 use Rattle.micro_tiles.specs.Strips.{behind_x, behind_y, leads_out}
 use Rattle.micro_tiles.specs.Table.{tile_count, boxes, design_of, port_at}
-use Rattle.micro_tiles.proofs.ShapeFacts.{tiles_keep_inside}
-use Rattle.micro_tiles.proofs.StripFacts.{tiles_have_strips}
-use Rattle.micro_tiles.proofs.NetFacts.{numbers_are_nets}
-use Rattle.micro_tiles.proofs.PortFacts.{ports_name_nets}
+use Rattle.stick_grid.specs.TileFacts.{TileFacts}
 use Rattle.stick_grid.proofs.Places.{has_layer}
 
 -- The port of the side carries the layer, on the net that the square has in it.
@@ -61,7 +58,7 @@ outer East place i = let right = i.right in omega (arith, ints)
 outer South place i = let bottom = i.bottom in omega (arith, ints)
 outer West place i = let left = i.left in omega (arith, ints)
 
-module _ (tile : ℕ) (side : Side) (below : tile < tile_count) where
+module _ (facts : TileFacts) (tile : ℕ) (side : Side) (below : tile < tile_count) where
   -- the square at this place of the border conducts
   abbrev At : Layer → ℤ → Type 0
   At layer place = Conducts (Covered (boxes tile)) layer (behind_x side (pos 0) place) (behind_y side (pos 0) place)
@@ -74,24 +71,24 @@ module _ (tile : ℕ) (side : Side) (below : tile < tile_count) where
   conducts_at Metal place out h = h
   conducts_at Poly place out h = h
   conducts_at Diffusion place out h =
-      (h, λ poly. outer side place ((tiles_keep_inside tile below).channel (behind_x side (pos 0) place) (behind_y side (pos 0) place) (record { diffusion = h; poly = poly })))
+      (h, λ poly. outer side place ((facts.inside tile below).channel (behind_x side (pos 0) place) (behind_y side (pos 0) place) (record { diffusion = h; poly = poly })))
   conducts_at Cut place out h = cc
   conducts_at Implant place out h = cc
 
   same_net : (layer : Layer) (a b : ℤ) → IsBy a b → At layer a → At layer b → net layer a ≡ net layer b
   same_net layer a b near c d = elim near [
     | inl one ↦ rw one refl
-    | inr next ↦ (numbers_are_nets tile (border side layer a) (border side layer b) below c d).1
+    | inr next ↦ (facts.nets tile (border side layer a) (border side layer b) below c d).1
         (step (border side layer a) (border side layer b) (border side layer b) (inl (refl, along side a b next)) d (here (border side layer b)))
   ]
 
   pub is_led : (layer : Layer) (place : ℤ) → At layer place → IsLed tile side layer (behind_x side (pos 0) place) (behind_y side (pos 0) place)
   is_led layer place h =
       let out = leads (Covered (boxes tile)) layer (behind_x side (pos 0) place) (behind_y side (pos 0) place) h in
-      let strip = tiles_have_strips tile side layer below out in
+      let strip = facts.strips tile side layer below out in
       let there = has_layer (Covered (boxes tile)) layer (behind_x side (pos 0) place) (behind_y side (pos 0) place) h in
       let carried = strip.carried place there in
-      let names = ports_name_nets tile side layer below carried in
+      let names = facts.ports tile side layer below carried in
       let seventh = conducts_at layer (pos 7) out (strip.seventh carried) in
       let from_sixth : net layer place ≡ net layer (pos 6) = by_lt_z place (pos 7)
       (λ low. same_net layer place (pos 6) (by_sixth place (strip.from place there) low) h names.conducts)

@@ -11,8 +11,7 @@ use Rattle.micro_tiles.specs.Strips.{leads_out}
 use Rattle.micro_tiles.specs.Designs.{has_cut, terminal, uncut_net, side_net}
 use Rattle.micro_tiles.specs.Nets.{named_net}
 use Rattle.micro_tiles.specs.Table.{tile_count, design_of, port_at}
-use Rattle.micro_tiles.proofs.StripFacts.{ports_lead_out_is}
-use Rattle.micro_tiles.proofs.StripTests.{carries_is, is_carried}
+use Rattle.stick_grid.specs.TileFacts.{TileFacts}
 use Rattle.stick_grid.specs.declared.piece_graph.TheConstants.{EXITS}
 
 -- ---- entries of lists
@@ -79,13 +78,13 @@ chosen : (t : Bool) (n m : ℕ) → cond t (Some n) None ≡ Some m → (t ≡ t
 chosen true n m e = (refl, cc)
 chosen false n m e = cc
 
-pub names : (tile : ℕ) (side : Side) (layer : Layer) (net : ℕ) → named_net tile side layer ≡ Some net → Names tile side layer net
-names tile side layer net e =
+pub names : TileFacts → (tile : ℕ) (side : Side) (layer : Layer) (net : ℕ) → named_net tile side layer ≡ Some net → Names tile side layer net
+names facts tile side layer net e =
     let c = chosen (carries (port_at tile side) layer) (side_net (design_of tile) side layer) net e in
-    record { carried = carries_is (port_at tile side) layer c.0; number = sym c.1 }
+    record { carried = (facts.carries (port_at tile side) layer).0 c.0; number = sym c.1 }
 
-pub named : (tile : ℕ) (side : Side) (layer : Layer) (net : ℕ) → Names tile side layer net → named_net tile side layer ≡ Some net
-named tile side layer net h = rw (is_carried (port_at tile side) layer h.carried, ← h.number) refl
+pub named : TileFacts → (tile : ℕ) (side : Side) (layer : Layer) (net : ℕ) → Names tile side layer net → named_net tile side layer ≡ Some net
+named facts tile side layer net h = rw ((facts.carries (port_at tile side) layer).1 h.carried, ← h.number) refl
 
 few_ends : (side : Side) → terminal side < 4
 few_ends North = omega arith
@@ -109,8 +108,8 @@ pub few_names : (tile : ℕ) (side : Side) (layer : Layer) (net : ℕ) → Names
 few_names tile side layer net h = rw h.number (few_either (has_cut (design_of tile)) (uncut_net side layer) (few_uncut side layer))
 
 -- A layer that a side carries leads out.
-pub names_out : (tile : ℕ) (side : Side) (layer : Layer) (net : ℕ) → tile < tile_count → Names tile side layer net → IsTrue (leads_out layer)
-names_out tile side layer net below h = ports_lead_out_is tile side layer below h.carried
+pub names_out : TileFacts → (tile : ℕ) (side : Side) (layer : Layer) (net : ℕ) → tile < tile_count → Names tile side layer net → IsTrue (leads_out layer)
+names_out facts tile side layer net below h = facts.lead_out tile side layer below h.carried
 
 -- The empty tile names nothing.
 pub names_none : (side : Side) (layer : Layer) (net : ℕ) → Names 0 side layer net → ⊥

@@ -9,6 +9,7 @@ use Rattle.stick_grid.specs.Tilings.{Tiling, IsTiling}
 use Rattle.stick_grid.specs.Plans.{plan_of}
 use Rattle.stick_grid.specs.Pieces.{Piece, MeetsAtEast, MeetsAtSouth, Connected}
 use Rattle.stick_grid.specs.Pieces.Connected.{same, east, west, south, north}
+use Rattle.stick_grid.specs.TileFacts.{TileFacts}
 use Rattle.stick_grid.specs.PieceGraph.{is_node, links}
 use Rattle.stick_grid.proofs.Numbering.{number, piece, piece_back}
 use Rattle.stick_grid.proofs.PieceLinks.{Meets, meets_back, second_in, target, meets_linked, node_in, target_node}
@@ -46,7 +47,7 @@ module _ (tiling : Tiling) where
   onward South layer p q r m rest = south p q r (south_of layer p q m) rest
   onward West layer p q r m rest = west p q r (east_of layer q p (meets_back tiling West layer p q m)) rest
 
-  module _ (given : IsTiling tiling) where
+  module _ (facts : TileFacts) (given : IsTiling tiling) where
     at_east : (p q : Piece) (m : MeetsAtEast (plan_of tiling) p q) → Meets tiling East m.layer p q
     at_east p q m =
         let col = m.col in
@@ -82,14 +83,14 @@ module _ (tiling : Tiling) where
     pub connected : (a b : ℕ) → is_node tiling a ≡ true → Reaches (links tiling) a b → Connected (plan_of tiling) (piece tiling a) (piece tiling b)
     connected _ _ n (here a) = same (piece tiling a)
     connected _ _ n (step a b c l path) =
-        let t = target tiling a b (node_in tiling given a n) l in
+        let t = target tiling facts a b (node_in tiling facts given a n) l in
         let next : piece tiling b ≡ t.net = ap (piece tiling) t.is ∙ piece_back tiling t.net (second_in tiling t.side t.layer (piece tiling a) t.net t.meets) in
-        let rest = connected b c (target_node tiling given a b t) path in
+        let rest = connected b c (target_node tiling facts given a b t) path in
         onward t.side t.layer (piece tiling a) t.net (piece tiling c) t.meets (subst (λ (q : Piece). Connected (plan_of tiling) q (piece tiling c)) next rest)
 
     link : (side : Side) (layer : Layer) (p q r : Piece) → Meets tiling side layer p q → Reaches (links tiling) (number tiling q) (number tiling r)
         → Reaches (links tiling) (number tiling p) (number tiling r)
-    link side layer p q r m rest = step (number tiling p) (number tiling q) (number tiling r) (meets_linked tiling given side layer p q m) rest
+    link side layer p q r m rest = step (number tiling p) (number tiling q) (number tiling r) (meets_linked tiling facts given side layer p q m) rest
 
     pub reaches : (p q : Piece) → Connected (plan_of tiling) p q → Reaches (links tiling) (number tiling p) (number tiling q)
     reaches _ _ (same p) = here (number tiling p)

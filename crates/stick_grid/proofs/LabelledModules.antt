@@ -19,6 +19,7 @@ use Rattle.stick_grid.specs.Transistors.{piece}
 use Rattle.stick_grid.specs.Depicted.{IsNamedPad, Depicts}
 use Rattle.stick_grid.specs.Modules.{places_along, row_along, col_along}
 use Rattle.stick_grid.specs.LabelledModules.{ModulesStandForNetworks}
+use Rattle.stick_grid.specs.TileFacts.{TileFacts}
 use Rattle.stick_grid.proofs.Carried.{carries_layer, leads_out}
 use Rattle.stick_grid.proofs.PieceSquares.{ports_have_squares}
 use Rattle.stick_grid.proofs.PlanNetworks.{plans_stand_for_networks}
@@ -72,8 +73,8 @@ module _ (plan : Plan) (some_row : 1 ≤ plan.rows) (some_col : 1 ≤ plan.cols)
   col_below South place below = below
   col_below West place below = omega arith
 
-pub modules_stand_for_networks : ModulesStandForNetworks
-modules_stand_for_networks plan name vdd border labels net circuit some_row some_col is at make =
+pub modules_stand_for_networks : TileFacts → ModulesStandForNetworks
+modules_stand_for_networks facts plan name vdd border labels net circuit some_row some_col is at make =
     let row : Label → ℕ = λ label. row_along plan (at.side label) (at.place label) in
     let col : Label → ℕ = λ label. col_along plan (at.side label) (at.place label) in
     let tile : Label → ℕ = λ label. plan.tile (row label) (col label) in
@@ -90,7 +91,7 @@ modules_stand_for_networks plan name vdd border labels net circuit some_row some
       under = under;
       on_squares = λ label among.
           subst (λ spot. IsIn plan spot (under label)) (sym (at.spot label among))
-          (ports_have_squares plan (row label) (col label) (at.side label) label.layer is.is_plan
+          (ports_have_squares facts plan (row label) (col label) (at.side label) label.layer is.is_plan
           (row_below plan some_row some_col (at.side label) (at.place label) (at.along label among))
           (col_below plan some_row some_col (at.side label) (at.place label) (at.along label among)) (out label among).0);
       agree = λ a b is_a is_b. (
@@ -110,4 +111,4 @@ modules_stand_for_networks plan name vdd border labels net circuit some_row some
       pads = same_pads circuit.pads;
       devices = subst (λ l. IsPermutation l (map ascending circuit.devices)) (same_devices is.drawn) is.as_drawn;
     } in
-    record { drawn = drawn; stands = plans_stand_for_networks plan labels drawn is.is_plan depicts; same = same }
+    record { drawn = drawn; stands = plans_stand_for_networks facts plan labels drawn is.is_plan depicts; same = same }

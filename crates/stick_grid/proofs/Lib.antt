@@ -4,6 +4,8 @@ mod Turned
 mod Beside
 mod Above
 mod Plans
+mod Laid
+mod Lists
 mod Places
 mod Rectangles
 mod TileChannels

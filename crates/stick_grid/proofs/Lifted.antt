@@ -1,13 +1,15 @@
 -- What is joined in a tile is joined in the plan.
 use Rattle.std.proofs.Common.{◌≡◌, ℕ, ◌-◌, ◌*◌, ◌<◌, ℤ, pos, ◌+ℤ◌, ◌-ℤ◌, inl, inr, ap, subst, arith}
 use Rattle.std.proofs.lemmas.Int.{ints}
-use Rattle.geom.specs.declared.layer.Layer.TheVariants.{Cut}
+use Rattle.geom.specs.declared.layer.Layer.TheVariants.{Cut, Poly}
 use Rattle.geom.specs.Squares.{Covered}
-use Rattle.geom.specs.Conduction.{IsNext, ShareSide, Spot, Conducts, IsJoin, Joined}
+use Rattle.geom.specs.Conduction.{IsNext, ShareSide, Leads, IsChannel, Spot, Conducts, IsJoin, Joined}
 use Rattle.geom.specs.Conduction.Joined.{here, step}
+use Rattle.geom.specs.Conduction.Leads.{here, step}
 use Rattle.micro_tiles.specs.Table.{boxes}
-use Rattle.stick_grid.specs.Plans.{Plan, IsPlan, Covers, local_x, local_y}
-use Rattle.stick_grid.proofs.Places.{LiesIn, lies_in, has_layer, covers_here, conducts_here}
+use Rattle.stick_grid.specs.Plans.{Plan, Covers, local_x, local_y}
+use Rattle.stick_grid.proofs.Laid.{Laid}
+use Rattle.stick_grid.proofs.Places.{LiesIn, lies_in, has_layer, covers_here, conducts_here, channel_here}
 
 -- a spot of the plan, from the corner of the tile in this row and column
 abbrev pub local : Plan → ℕ → ℕ → Spot → Spot
@@ -59,7 +61,7 @@ placed_local plan row col a = λ i. record {
 
 -- ---- joins of a tile
 
-module _ (plan : Plan) (known : IsPlan plan) (row col : ℕ) (is_row : row < plan.rows) (is_col : col < plan.cols) where
+module _ (plan : Plan) (known : Laid plan) (row col : ℕ) (is_row : row < plan.rows) (is_col : col < plan.cols) where
   -- the spot of the tile conducts
   abbrev Live : Spot → Type 0
   Live a = Conducts (Covered (boxes (plan.tile row col))) a.layer a.x a.y
@@ -109,3 +111,33 @@ module _ (plan : Plan) (known : IsPlan plan) (row col : ℕ) (is_row : row < pla
     | inl within ↦ inl (within.0, side_back a.x a.y b.x b.y (pos (14 * col)) (pos (14 * (plan.rows - 1 - row))) within.1)
     | inr under ↦ inr (ap (local_x col) under.0, ap (local_y plan row) under.1, (covers_here plan known row col a.x a.y lies Cut).0 under.2)
   ]
+
+  -- ---- paths in the channel of the tile
+
+  -- the squares of the tile's channel
+  abbrev InChannel : ℤ → ℤ → Type 0
+  InChannel x y = IsChannel (Covered (boxes (plan.tile row col))) x y
+
+  channel_placed : (x y : ℤ) → InChannel x y → IsChannel (Covers plan) (x +ℤ pos (14 * col)) (y +ℤ pos (14 * (plan.rows - 1 - row)))
+  channel_placed x y h =
+      let u = x +ℤ pos (14 * col) in
+      let v = y +ℤ pos (14 * (plan.rows - 1 - row)) in
+      let there : InChannel (local_x col u) (local_y plan row v) = rw (back x (pos (14 * col)), back y (pos (14 * (plan.rows - 1 - row)))) h in
+      (channel_here plan known row col u v (lies_in plan known row col Poly u v is_row is_col there.poly)).1 there
+
+  path_placed : (x y s t : ℤ) → Leads InChannel x y s t
+      → Leads (IsChannel (Covers plan)) (x +ℤ pos (14 * col)) (y +ℤ pos (14 * (plan.rows - 1 - row))) (s +ℤ pos (14 * col)) (t +ℤ pos (14 * (plan.rows - 1 - row)))
+  path_placed _ _ _ _ (here x y) = here (x +ℤ pos (14 * col)) (y +ℤ pos (14 * (plan.rows - 1 - row)))
+  path_placed _ _ _ _ (step x y u v s t side member rest) =
+      step (x +ℤ pos (14 * col)) (y +ℤ pos (14 * (plan.rows - 1 - row))) (u +ℤ pos (14 * col)) (v +ℤ pos (14 * (plan.rows - 1 - row)))
+      (s +ℤ pos (14 * col)) (t +ℤ pos (14 * (plan.rows - 1 - row)))
+      (side_moved x y u v (pos (14 * col)) (pos (14 * (plan.rows - 1 - row))) side) (channel_placed u v member) (path_placed u v s t rest)
+
+  -- Squares that the tile's channel joins are joined by the plan's.
+  pub lifted_path : (x y s t : ℤ) → Leads InChannel (local_x col x) (local_y plan row y) (local_x col s) (local_y plan row t)
+      → Leads (IsChannel (Covers plan)) x y s t
+  lifted_path x y s t path =
+      let d = pos (14 * col) in
+      let e = pos (14 * (plan.rows - 1 - row)) in
+      let moved = path_placed (local_x col x) (local_y plan row y) (local_x col s) (local_y plan row t) path in
+      rw (forth x d, forth y e, forth s d, forth t e) at moved

@@ -4,13 +4,14 @@ use Rattle.std.proofs.lemmas.Nat.{mul-add-lt, same_from_place}
 use Rattle.std.proofs.lemmas.Bool.{cases_eq}
 use Rattle.geom.specs.Squares.{Inside}
 use Rattle.geom.specs.Rows.{Among, Pairwise}
-use Rattle.geom.proofs.Lists.{among_push, among_left, among_right, pairwise_push}
 use Rattle.micro_tiles.specs.declared.device.Transistor.{Transistor}
 use Rattle.micro_tiles.specs.Table.{transistor_at}
 use Rattle.nmos_model.specs.declared.channel.Channel.{Channel}
 use Rattle.nmos_model.specs.Channels.{AreApart, AreChannels, IsTransistor, rectangle_of}
-use Rattle.stick_grid.specs.Plans.{Plan, IsPlan, Covers}
+use Rattle.stick_grid.specs.Plans.{Plan, Covers}
 use Rattle.stick_grid.specs.Transistors.{channel_at, IsOfTile}
+use Rattle.stick_grid.proofs.Laid.{Laid}
+use Rattle.stick_grid.proofs.Lists.{among_cases, among_left, among_right, pairwise_push}
 use Rattle.stick_grid.proofs.Places.{LiesIn, one_row, one_col}
 use Rattle.stick_grid.proofs.TileChannels.{placed_lies, is_placed, channels_are_of_tiles}
 
@@ -30,7 +31,7 @@ pub listed_none : (plan : Plan) → AreListed plan 0 []
 listed_none plan = record { each = λ c none. absurd none; all = λ row col t is_row is_col before. absurd (omega arith); apart = tt }
 
 -- The channels of two tiles share no square.
-apart_in : (plan : Plan) → IsPlan plan → (c d : Channel) (h : IsOfTile plan c) (k : IsOfTile plan d)
+apart_in : (plan : Plan) → Laid plan → (c d : Channel) (h : IsOfTile plan c) (k : IsOfTile plan d)
     → h.row * plan.cols + h.col < k.row * plan.cols + k.col → AreApart c d
 apart_in plan known c d h k before x y i j =
     let at : LiesIn plan h.row h.col x y = placed_lies plan known h.row h.col h.is_row h.is_col h.transistor h.has x y (subst (λ c. Inside (rectangle_of c) x y) h.channel i) in
@@ -43,7 +44,7 @@ apart_in plan known c d h k before x y i j =
 later : (plan : Plan) (n : ℕ) (c : Channel) → IsOfFirst plan n c → IsOfFirst plan (n + 1) c
 later plan n c h = let b = h.before in record { tile = h.tile; before = omega arith }
 
-module _ (plan : Plan) (known : IsPlan plan) (n row col : ℕ) (number : row * plan.cols + col ≡ n) (is_row : row < plan.rows) (is_col : col < plan.cols)
+module _ (plan : Plan) (known : Laid plan) (n row col : ℕ) (number : row * plan.cols + col ≡ n) (is_row : row < plan.rows) (is_col : col < plan.cols)
     (channels : List Channel) (listed : AreListed plan n channels) where
   -- A tile without a transistor adds nothing.
   pub listed_same : transistor_at (plan.tile row col) ≡ None → AreListed plan (n + 1) channels
@@ -65,9 +66,9 @@ module _ (plan : Plan) (known : IsPlan plan) (n row col : ℕ) (number : row * p
       let here : IsOfTile plan (channel_at plan row col t) =
       record { row = row; col = col; transistor = t; is_row = is_row; is_col = is_col; has = has; channel = refl; placed = is_placed plan known row col is_row is_col t has } in
       record {
-        each = λ c among. elim (among_push channels (channel_at plan row col t) c among) [
+        each = λ c among. elim (among_cases channels (channel_at plan row col t ∷ []) c among) [
           | inl old ↦ later plan n c (listed.each c old)
-          | inr e ↦ subst (λ c. IsOfFirst plan (n + 1) c) e (record { tile = here; before = omega arith })
+          | inr last ↦ elim last [ inl e ↦ subst (λ c. IsOfFirst plan (n + 1) c) e (record { tile = here; before = omega arith }) | inr none ↦ absurd none ]
         ];
         all = λ r c u is_r is_c before has_u. elim (cases_eq (r * plan.cols + c) n) [
           | inl same ↦
@@ -95,13 +96,13 @@ module _ (plan : Plan) (known : IsPlan plan) (n row col : ℕ) (number : row * p
   listed_no_channel None has is = listed_same has
   listed_no_channel (Some t) has is = cc
 
-pub listed_all : (plan : Plan) → IsPlan plan → (n : ℕ) (channels : List Channel) → n ≡ plan.rows * plan.cols → AreListed plan n channels → AreChannels (Covers plan) channels
+pub listed_all : (plan : Plan) → Laid plan → (n : ℕ) (channels : List Channel) → n ≡ plan.rows * plan.cols → AreListed plan n channels → AreChannels (Covers plan) channels
 listed_all plan known n channels whole listed = record {
   each = λ c among.
       let h = (listed.each c among).tile in
       subst (λ c. IsTransistor (Covers plan) c) (sym h.channel) h.placed.region;
   all = λ x y is.
-      let found = channels_are_of_tiles plan x y known is in
+      let found = channels_are_of_tiles known.facts plan x y known.plan_is is in
       let before : found.row * plan.cols + found.col < plan.cols * plan.rows = mul-add-lt found.row plan.cols found.col plan.rows found.is_row found.is_col in
       let turn : plan.rows * plan.cols ≡ plan.cols * plan.rows = omega arith in
       (channel_at plan found.row found.col found.transistor, listed.all found.row found.col found.transistor found.is_row found.is_col (omega arith) found.has, found.inside);

@@ -6,8 +6,10 @@ use Rattle.std.proofs.lemmas.List.Concat.{flat_map-append}
 use Rattle.micro_tiles.specs.declared.device.Transistor.{Transistor}
 use Rattle.micro_tiles.specs.Table.{transistor_at}
 use Rattle.nmos_model.specs.declared.channel.Channel.{Channel}
-use Rattle.stick_grid.specs.Plans.{Plan, IsPlan}
+use Rattle.stick_grid.specs.Plans.{Plan}
 use Rattle.stick_grid.specs.Devices.{PlacedTransistor, placed, transistor_in, transistors_in_row, transistors_of, placed_channel, TransistorsAreChannels}
+use Rattle.stick_grid.specs.TileFacts.{TileFacts}
+use Rattle.stick_grid.proofs.Laid.{Laid, laid}
 use Rattle.stick_grid.proofs.Listed.{AreListed, listed_none, listed_same, listed_more, listed_all}
 
 -- one number more
@@ -23,7 +25,7 @@ flat_more f n =
     ap (flat_map f) (range_more 0 n) ∙ flat_map-append f (range_with_len 0 n) ((0 + n) ∷ [])
     ∙ ap (λ l. flat_map f (range_with_len 0 n) ++ l) (append-nil (f (0 + n)) ∙ ap f e)
 
-module _ (plan : Plan) (known : IsPlan plan) where
+module _ (plan : Plan) (known : Laid plan) where
   abbrev channels : List PlacedTransistor → List Channel
   channels ts = map (placed_channel plan) ts
 
@@ -65,6 +67,7 @@ module _ (plan : Plan) (known : IsPlan plan) where
       subst (λ k. AreListed plan k (channels (flat_map (transistors_in_row plan) (range_with_len 0 (suc r))))) e
       (subst (AreListed plan (r * plan.cols + plan.cols)) is row)
 
-pub transistors_are_channels : TransistorsAreChannels
-transistors_are_channels plan known =
+pub transistors_are_channels : TileFacts → TransistorsAreChannels
+transistors_are_channels facts plan is =
+    let known = laid facts plan is in
     listed_all plan known (plan.rows * plan.cols) (map (placed_channel plan) (transistors_of plan)) refl (listed_rows plan known plan.rows (omega arith))

@@ -12,20 +12,19 @@ use Rattle.micro_tiles.specs.Conducting.{conducts}
 use Rattle.micro_tiles.specs.Nets.{square_net}
 use Rattle.micro_tiles.specs.Strips.{behind_x, behind_y}
 use Rattle.micro_tiles.specs.Table.{boxes}
-use Rattle.micro_tiles.proofs.CoverTests.{conducts_is}
-use Rattle.micro_tiles.proofs.PortFacts.{ports_name_nets}
-use Rattle.micro_tiles.proofs.SideFacts.{nets_reach_sides}
 use Rattle.nmos_model.specs.Classes.{Classing, IsClassing, class_at}
 use Rattle.nmos_model.specs.Nets.{AreNets}
 use Rattle.stick_grid.specs.Tilings.{Tiling, IsTiling, tile_at}
-use Rattle.stick_grid.specs.Plans.{Plan, IsPlan, Covers, plan_of, local_x, local_y}
+use Rattle.stick_grid.specs.TileFacts.{TileFacts}
+use Rattle.stick_grid.specs.Plans.{Plan, Covers, plan_of, local_x, local_y}
 use Rattle.stick_grid.specs.Pieces.{Piece, IsIn, Connected, HasPieces}
 use Rattle.stick_grid.specs.PieceGraph.{is_node, links, leads}
 use Rattle.stick_grid.specs.NetMaps.{NetMap, tile_over, class_in, class_of, net_of, net_count}
 use Rattle.stick_grid.specs.declared.piece_graph.TheConstants.{EXITS}
 use Rattle.stick_grid.proofs.Plans.{tilings_are_plans}
+use Rattle.stick_grid.proofs.Laid.{Laid, laid}
 use Rattle.stick_grid.proofs.Places.{lies_in, has_layer}
-use Rattle.stick_grid.proofs.Assembly.{plans_have_pieces, squares_are_nets}
+use Rattle.stick_grid.proofs.Assembly.{has_pieces, squares_are_nets}
 use Rattle.stick_grid.proofs.Exits.{Names, some_passes, few_names}
 use Rattle.stick_grid.proofs.Numbering.{place, number, piece, InTiling, piece_back, number_within, number_back}
 use Rattle.stick_grid.proofs.PieceLinks.{leads_is, named_node, node_in}
@@ -47,28 +46,28 @@ pub tile_below : (count tile : ℕ) (at : ℤ) → tile_over count at ≡ Some t
 tile_below count tile (pos n) e = below_count (nat_lt (n / 14) count) (n / 14) tile count refl e
 tile_below count tile (negsuc n) e = cc
 
-module _ (tiling : Tiling) (given : IsTiling tiling) where
+module _ (facts : TileFacts) (tiling : Tiling) (given : IsTiling tiling) where
   abbrev plan : Plan
   plan = plan_of tiling
 
-  known : IsPlan plan
-  known = tilings_are_plans tiling given
+  known : Laid plan
+  known = laid facts plan (tilings_are_plans tiling given)
 
   pieces : HasPieces plan
-  pieces = plans_have_pieces plan known
+  pieces = has_pieces plan known
 
   -- ---- the nets that have squares are nodes
 
   named_at : (a : Spot) (p : Piece) → IsIn plan a p → (side : Side) × Names (tile_at tiling p.row p.col) side a.layer p.net
   named_at a p h =
-      let reach = nets_reach_sides (tile_at tiling p.row p.col) a.layer (local_x p.col a.x) (local_y plan p.row a.y) (known.known p.row p.col h.is_row h.is_col) h.conducts in
+      let reach = facts.sides (tile_at tiling p.row p.col) a.layer (local_x p.col a.x) (local_y plan p.row a.y) (known.plan_is.known p.row p.col h.is_row h.is_col) h.conducts in
       (reach.side, record { carried = reach.carried; number = h.net ∙ sym reach.number })
 
   inner : (a : Spot) (p : Piece) → IsIn plan a p → InTiling tiling p
   inner a p h = let n = named_at a p h in record { is_row = h.is_row; is_col = h.is_col; few = few_names (tile_at tiling p.row p.col) n.0 a.layer p.net n.1 }
 
   node_of : (a : Spot) (p : Piece) → IsIn plan a p → is_node tiling (number tiling p) ≡ true
-  node_of a p h = let n = named_at a p h in named_node tiling given p n.0 a.layer (inner a p h) n.1
+  node_of a p h = let n = named_at a p h in named_node tiling facts given p n.0 a.layer (inner a p h) n.1
 
   -- a square of the net of a node
   record Shown (p : Piece) : Type 0 where
@@ -78,7 +77,7 @@ module _ (tiling : Tiling) (given : IsTiling tiling) where
   shown : (p : Piece) (side : Side) (layer : Layer) → InTiling tiling p → Names (tile_at tiling p.row p.col) side layer p.net → Shown p
   shown p side layer inside h =
       let tile = tile_at tiling p.row p.col in
-      let at = ports_name_nets tile side layer (known.known p.row p.col inside.is_row inside.is_col) h.carried in
+      let at = facts.ports tile side layer (known.plan_is.known p.row p.col inside.is_row inside.is_col) h.carried in
       let u = behind_x side (pos 0) (pos 6) in
       let v = behind_y side (pos 0) (pos 6) in
       let x : local_x p.col (pos (14 * p.col) +ℤ u) ≡ u = omega (arith, ints) in
@@ -96,7 +95,7 @@ module _ (tiling : Tiling) (given : IsTiling tiling) where
   node_shown : (n : ℕ) → is_node tiling n ≡ true → Shown (piece tiling n)
   node_shown n h =
       let exit = some_passes (leads tiling n) EXITS h in
-      shown (piece tiling n) exit.entry.0 exit.entry.1 (node_in tiling given n h) (leads_is tiling n exit.entry exit.passes)
+      shown (piece tiling n) exit.entry.0 exit.entry.1 (node_in tiling facts given n h) (leads_is tiling facts n exit.entry exit.passes)
 
   module _ (classes : Classing) (classing : IsClassing (4 * (tiling.rows * tiling.cols)) (is_node tiling) (links tiling) classes) where
     abbrev map : NetMap
@@ -112,7 +111,7 @@ module _ (tiling : Tiling) (given : IsTiling tiling) where
         let col = tile_over_at tiling.cols p.col a.x h.is_col i.left (let r = i.right in omega (arith, ints)) in
         let south = tile_over_at tiling.rows (tiling.rows - 1 - p.row) a.y (omega arith) i.bottom (let t = i.top in omega (arith, ints)) in
         let row : tiling.rows - 1 - (tiling.rows - 1 - p.row) ≡ p.row = omega arith in
-        let test = (conducts_is (tile_at tiling p.row p.col) (local_x p.col a.x) (local_y plan p.row a.y) a.layer).1 h.conducts in
+        let test = (facts.conducts (tile_at tiling p.row p.col) a.layer (local_x p.col a.x) (local_y plan p.row a.y)).1 h.conducts in
         let here : class_in map (place p) a.layer (local_x p.col a.x) (local_y plan p.row a.y) ≡ class_at classes.numbers (number tiling p) = rw (test, ← h.net) refl in
         rw (col, south, row) here
 
@@ -139,7 +138,7 @@ module _ (tiling : Tiling) (given : IsTiling tiling) where
           elim (cases_Bool test) [
             | inr dark ↦ absurd (let no_class : None ≡ Some k = sym (rw dark refl) ∙ e in cc)
             | inl lit ↦
-                let here = (conducts_is tile (x -ℤ pos (14 * col)) (y -ℤ pos (14 * south)) layer).0 lit in
+                let here = (facts.conducts tile layer (x -ℤ pos (14 * col)) (y -ℤ pos (14 * south))).0 lit in
                 let there : Conducts (Covered (boxes tile)) layer (local_x col x) (local_y plan row y) = rw back here in
                 let p : Piece = record { row = row; col = col; net = square_net tile layer (local_x col x) (local_y plan row y) } in
                 pieces.conducts (record { layer = layer; x = x; y = y }) p (record { is_row = omega arith; is_col = is_col; conducts = there; net = refl })
@@ -158,13 +157,13 @@ module _ (tiling : Tiling) (given : IsTiling tiling) where
     one_net : (a b : Spot) (p q : Piece) → IsIn plan a p → IsIn plan b q → (net_of map a.layer a.x a.y ≡ net_of map b.layer b.x b.y) ↔ Joined (Covers plan) a b
     one_net a b p q h k =
         let c = class_some a p h in
-        let law = squares_are_nets plan a b p q known h k in (
+        let law = squares_are_nets facts plan a b p q known.plan_is h k in (
           λ e.
               let there = sym (net_at b q k) ∙ sym e ∙ net_at a p h ∙ c.1 in
-              let path = connected tiling given (number tiling p) (number tiling q) (node_of a p h) ((classing.one (number tiling p) (number tiling q) c.0 c.1).0 there) in
+              let path = connected tiling facts given (number tiling p) (number tiling q) (node_of a p h) ((classing.one (number tiling p) (number tiling q) c.0 c.1).0 there) in
               law.1 (subst (λ (r : Piece). Connected plan p r) (piece_back tiling q (inner b q k)) (subst (λ (r : Piece). Connected plan r (piece tiling (number tiling q))) (piece_back tiling p (inner a p h)) path)),
           λ j.
-              let path = reaches tiling given p q (law.0 j) in
+              let path = reaches tiling facts given p q (law.0 j) in
               net_at a p h ∙ c.1 ∙ sym ((classing.one (number tiling p) (number tiling q) c.0 c.1).1 path) ∙ sym (net_at b q k),
         )
 

@@ -16,6 +16,7 @@ use Rattle.stick_grid.specs.declared.piece_graph.TheConstants.{EXITS}
 use Rattle.stick_grid.specs.Tilings.{Tiling, IsTiling, tile_at}
 use Rattle.stick_grid.specs.Pieces.{Piece}
 use Rattle.stick_grid.specs.PieceGraph.{place_of, tile_in, number_of, is_net, leads, is_node, beyond, net_from, link_over, links}
+use Rattle.stick_grid.specs.TileFacts.{TileFacts}
 use Rattle.stick_grid.proofs.Exits.{some_passes, passes_some, image_of, exit_at, Names, names, named, few_names, names_out, names_none}
 use Rattle.stick_grid.proofs.Numbering.{place, number, piece, InTiling, piece_back, piece_in, number_back}
 
@@ -127,125 +128,126 @@ module _ (tiling : Tiling) where
   pub second_in : (side : Side) (layer : Layer) (p q : Piece) → Meets side layer p q → InTiling tiling q
   second_in side layer p q m = first_in (opposite side) layer q p (meets_back side layer p q m)
 
-  -- ---- the links of a number
+  module _ (facts : TileFacts) where
+    -- ---- the links of a number
 
-  is_named : (net : ℕ) (o : Option ℕ) → is_net net o ≡ true → o ≡ Some net
-  is_named net None h = cc
-  is_named net (Some m) h = let e = eqb-true m net h in rw e refl
+    is_named : (net : ℕ) (o : Option ℕ) → is_net net o ≡ true → o ≡ Some net
+    is_named net None h = cc
+    is_named net (Some m) h = let e = eqb-true m net h in rw e refl
 
-  named_is : (net : ℕ) (o : Option ℕ) → o ≡ Some net → is_net net o ≡ true
-  named_is net o e = rw e (eq-eqb net net refl)
+    named_is : (net : ℕ) (o : Option ℕ) → o ≡ Some net → is_net net o ≡ true
+    named_is net o e = rw e (eq-eqb net net refl)
 
-  -- The net of the number, and what it names.
-  pub leads_is : (n : ℕ) (exit : Exit) → leads tiling n exit ≡ true
-      → Names (tile_at tiling (piece tiling n).row (piece tiling n).col) exit.0 exit.1 (piece tiling n).net
-  leads_is n exit h = names _ exit.0 exit.1 (n % 4) (is_named (n % 4) _ h)
+    -- The net of the number, and what it names.
+    pub leads_is : (n : ℕ) (exit : Exit) → leads tiling n exit ≡ true
+        → Names (tile_at tiling (piece tiling n).row (piece tiling n).col) exit.0 exit.1 (piece tiling n).net
+    leads_is n exit h = names facts _ exit.0 exit.1 (n % 4) (is_named (n % 4) _ h)
 
-  pub is_leading : (p : Piece) (side : Side) (layer : Layer) → InTiling tiling p → Names (tile_at tiling p.row p.col) side layer p.net → leads tiling (number tiling p) (side, layer) ≡ true
-  is_leading p side layer inner h =
-      subst (λ (q : Piece). is_net q.net (named_net (tile_at tiling q.row q.col) side layer) ≡ true) (sym (piece_back tiling p inner))
-      (named_is p.net _ (named (tile_at tiling p.row p.col) side layer p.net h))
+    pub is_leading : (p : Piece) (side : Side) (layer : Layer) → InTiling tiling p → Names (tile_at tiling p.row p.col) side layer p.net → leads tiling (number tiling p) (side, layer) ≡ true
+    is_leading p side layer inner h =
+        subst (λ (q : Piece). is_net q.net (named_net (tile_at tiling q.row q.col) side layer) ≡ true) (sym (piece_back tiling p inner))
+        (named_is p.net _ (named facts (tile_at tiling p.row p.col) side layer p.net h))
 
-  over : (t : Bool) (o : Option ℕ) (b : ℕ) → cond t o None ≡ Some b → (t ≡ true) × (o ≡ Some b)
-  over true o b e = (refl, e)
-  over false o b e = cc
+    over : (t : Bool) (o : Option ℕ) (b : ℕ) → cond t o None ≡ Some b → (t ≡ true) × (o ≡ Some b)
+    over true o b e = (refl, e)
+    over false o b e = cc
 
-  -- a net beyond a side
-  record Beyond (place : Option Place) (exit : Exit) (b : ℕ) : Type 0 where
-    there : Place
-    is : place ≡ Some there
-    net : ℕ
-    names : Names (tile_at tiling there.row there.col) exit.0 exit.1 net
-    number : b ≡ number_of tiling there net
+    -- a net beyond a side
+    record Beyond (place : Option Place) (exit : Exit) (b : ℕ) : Type 0 where
+      there : Place
+      is : place ≡ Some there
+      net : ℕ
+      names : Names (tile_at tiling there.row there.col) exit.0 exit.1 net
+      number : b ≡ number_of tiling there net
 
-  from : (place : Option Place) (exit : Exit) (b : ℕ) → net_from tiling place exit ≡ Some b → Beyond place exit b
-  from None exit b e = cc
-  from (Some there) exit b e = go (named_net (tile_in tiling there) exit.0 exit.1) refl e
-    where
-      go : (o : Option ℕ) → named_net (tile_in tiling there) exit.0 exit.1 ≡ o → option_map (number_of tiling there) o ≡ Some b → Beyond (Some there) exit b
-      go None named e = cc
-      go (Some net) named e = record { there = there; is = refl; net = net; names = names (tile_in tiling there) exit.0 exit.1 net named; number = cc }
+    from : (place : Option Place) (exit : Exit) (b : ℕ) → net_from tiling place exit ≡ Some b → Beyond place exit b
+    from None exit b e = cc
+    from (Some there) exit b e = go (named_net (tile_in tiling there) exit.0 exit.1) refl e
+      where
+        go : (o : Option ℕ) → named_net (tile_in tiling there) exit.0 exit.1 ≡ o → option_map (number_of tiling there) o ≡ Some b → Beyond (Some there) exit b
+        go None named e = cc
+        go (Some net) named e = record { there = there; is = refl; net = net; names = names facts (tile_in tiling there) exit.0 exit.1 net named; number = cc }
 
-  -- a net that is linked from a number
-  pub record Target (a b : ℕ) : Type 0 where
-    pub side : Side
-    pub layer : Layer
-    pub net : Piece
-    pub meets : Meets side layer (piece tiling a) net
-    pub is : b ≡ number tiling net
+    -- a net that is linked from a number
+    pub record Target (a b : ℕ) : Type 0 where
+      pub side : Side
+      pub layer : Layer
+      pub net : Piece
+      pub meets : Meets side layer (piece tiling a) net
+      pub is : b ≡ number tiling net
 
-  pub target : (a b : ℕ) → InTiling tiling (piece tiling a) → Linked (links tiling) a b → Target a b
-  target a b inner (at, e) =
-      let found = image_of (link_over tiling a) EXITS at b e in
-      let exit = found.0 in
-      let here = over (leads tiling a exit) (net_from tiling (beyond tiling (place_of tiling a) exit.0) (opposite exit.0, exit.1)) b found.1 in
-      let far = from (beyond tiling (place_of tiling a) exit.0) (opposite exit.0, exit.1) b here.1 in
-      let near = beyond_is exit.0 (piece tiling a) far.there far.net inner.is_row inner.is_col far.is in
-      record {
-        side = exit.0;
-        layer = exit.1;
-        net = record { row = far.there.row; col = far.there.col; net = far.net };
-        meets = record {
-          first_row = inner.is_row;
-          first_col = inner.is_col;
-          second_row = near.1;
-          second_col = near.2;
-          beyond = near.0;
-          first = leads_is a exit here.0;
-          second = far.names;
-        };
-        is = far.number;
+    pub target : (a b : ℕ) → InTiling tiling (piece tiling a) → Linked (links tiling) a b → Target a b
+    target a b inner (at, e) =
+        let found = image_of (link_over tiling a) EXITS at b e in
+        let exit = found.0 in
+        let here = over (leads tiling a exit) (net_from tiling (beyond tiling (place_of tiling a) exit.0) (opposite exit.0, exit.1)) b found.1 in
+        let far = from (beyond tiling (place_of tiling a) exit.0) (opposite exit.0, exit.1) b here.1 in
+        let near = beyond_is exit.0 (piece tiling a) far.there far.net inner.is_row inner.is_col far.is in
+        record {
+          side = exit.0;
+          layer = exit.1;
+          net = record { row = far.there.row; col = far.there.col; net = far.net };
+          meets = record {
+            first_row = inner.is_row;
+            first_col = inner.is_col;
+            second_row = near.1;
+            second_col = near.2;
+            beyond = near.0;
+            first = leads_is a exit here.0;
+            second = far.names;
+          };
+          is = far.number;
+        }
+
+    module _ (given : IsTiling tiling) where
+      -- nets that meet are linked
+      pub meets_linked : (side : Side) (layer : Layer) (p q : Piece) → Meets side layer p q → Linked (links tiling) (number tiling p) (number tiling q)
+      meets_linked side layer p q m =
+          let inner = first_in side layer p q m in
+          let below = given.known p.row p.col m.first_row m.first_col in
+          let entry = exit_at side layer (names_out facts (tile_at tiling p.row p.col) side layer p.net below m.first) in
+          let leading = is_leading p side layer inner m.first in
+          let here : place_of tiling (number tiling p) ≡ place p = ap place (piece_back tiling p inner) in
+          let near = is_beyond side p q m.beyond m.second_row m.second_col in
+          let far = named facts (tile_at tiling q.row q.col) (opposite side) layer q.net m.second in
+          let link : link_over tiling (number tiling p) (side, layer) ≡ Some (number tiling q) = rw (leading, here, near, far) refl in
+          (entry.0, slice_get-map (link_over tiling (number tiling p)) EXITS entry.0 ∙ ap (option_map (link_over tiling (number tiling p))) entry.1 ∙ ap Some link)
+
+      -- ---- nodes
+
+      pub named_node : (p : Piece) (side : Side) (layer : Layer) → InTiling tiling p → Names (tile_at tiling p.row p.col) side layer p.net → is_node tiling (number tiling p) ≡ true
+      named_node p side layer inner h =
+          let below = given.known p.row p.col inner.is_row inner.is_col in
+          let entry = exit_at side layer (names_out facts (tile_at tiling p.row p.col) side layer p.net below h) in
+          passes_some (leads tiling (number tiling p)) EXITS entry.0 (side, layer) entry.1 (is_leading p side layer inner h)
+
+      -- a node is one of the numbers
+      pub node_within : (n : ℕ) → is_node tiling n ≡ true → n < 4 * (tiling.rows * tiling.cols)
+      node_within n h = elim (cases_lt n (4 * (tiling.rows * tiling.cols))) [
+        | inl below ↦ below
+        | inr beyond ↦
+            let split = div-add-mod' (n / 4) tiling.cols in
+            let size = given.size in
+            let past : length tiling.tiles ≤ n / 4 / tiling.cols * tiling.cols + n / 4 % tiling.cols = omega (arith, split, size) in
+            let none : tile_at tiling (n / 4 / tiling.cols) (n / 4 % tiling.cols) ≡ 0 = get_or-eq_default tiling.tiles 0 past in
+            let exit = some_passes (leads tiling n) EXITS h in
+            absurd (names_none exit.entry.0 exit.entry.1 (n % 4) (subst (λ t. Names t exit.entry.0 exit.entry.1 (n % 4)) none (leads_is n exit.entry exit.passes)))
+      ]
+
+      pub node_in : (n : ℕ) → is_node tiling n ≡ true → InTiling tiling (piece tiling n)
+      node_in n h = piece_in tiling given n (node_within n h)
+
+      pub target_node : (a b : ℕ) (t : Target a b) → is_node tiling b ≡ true
+      target_node a b t =
+          let m = t.meets in
+          subst (λ n. is_node tiling n ≡ true) (sym t.is) (named_node t.net (opposite t.side) t.layer (second_in t.side t.layer (piece tiling a) t.net m) m.second)
+
+      pub is_graph : IsGraph (4 * (tiling.rows * tiling.cols)) (is_node tiling) (links tiling)
+      is_graph = record {
+        within = λ a b n l. node_within b (target_node a b (target a b (node_in a n) l));
+        further = λ a b n l. target_node a b (target a b (node_in a n) l);
+        back = λ a b n l.
+            let t = target a b (node_in a n) l in
+            let there = meets_linked (opposite t.side) t.layer t.net (piece tiling a) (meets_back t.side t.layer (piece tiling a) t.net t.meets) in
+            subst (λ m. Linked (links tiling) m a) (sym t.is) (subst (λ m. Linked (links tiling) (number tiling t.net) m) (number_back tiling a) there);
       }
-
-  module _ (given : IsTiling tiling) where
-    -- nets that meet are linked
-    pub meets_linked : (side : Side) (layer : Layer) (p q : Piece) → Meets side layer p q → Linked (links tiling) (number tiling p) (number tiling q)
-    meets_linked side layer p q m =
-        let inner = first_in side layer p q m in
-        let below = given.known p.row p.col m.first_row m.first_col in
-        let entry = exit_at side layer (names_out (tile_at tiling p.row p.col) side layer p.net below m.first) in
-        let leading = is_leading p side layer inner m.first in
-        let here : place_of tiling (number tiling p) ≡ place p = ap place (piece_back tiling p inner) in
-        let near = is_beyond side p q m.beyond m.second_row m.second_col in
-        let far = named (tile_at tiling q.row q.col) (opposite side) layer q.net m.second in
-        let link : link_over tiling (number tiling p) (side, layer) ≡ Some (number tiling q) = rw (leading, here, near, far) refl in
-        (entry.0, slice_get-map (link_over tiling (number tiling p)) EXITS entry.0 ∙ ap (option_map (link_over tiling (number tiling p))) entry.1 ∙ ap Some link)
-
-    -- ---- nodes
-
-    pub named_node : (p : Piece) (side : Side) (layer : Layer) → InTiling tiling p → Names (tile_at tiling p.row p.col) side layer p.net → is_node tiling (number tiling p) ≡ true
-    named_node p side layer inner h =
-        let below = given.known p.row p.col inner.is_row inner.is_col in
-        let entry = exit_at side layer (names_out (tile_at tiling p.row p.col) side layer p.net below h) in
-        passes_some (leads tiling (number tiling p)) EXITS entry.0 (side, layer) entry.1 (is_leading p side layer inner h)
-
-    -- a node is one of the numbers
-    pub node_within : (n : ℕ) → is_node tiling n ≡ true → n < 4 * (tiling.rows * tiling.cols)
-    node_within n h = elim (cases_lt n (4 * (tiling.rows * tiling.cols))) [
-      | inl below ↦ below
-      | inr beyond ↦
-          let split = div-add-mod' (n / 4) tiling.cols in
-          let size = given.size in
-          let past : length tiling.tiles ≤ n / 4 / tiling.cols * tiling.cols + n / 4 % tiling.cols = omega (arith, split, size) in
-          let none : tile_at tiling (n / 4 / tiling.cols) (n / 4 % tiling.cols) ≡ 0 = get_or-eq_default tiling.tiles 0 past in
-          let exit = some_passes (leads tiling n) EXITS h in
-          absurd (names_none exit.entry.0 exit.entry.1 (n % 4) (subst (λ t. Names t exit.entry.0 exit.entry.1 (n % 4)) none (leads_is n exit.entry exit.passes)))
-    ]
-
-    pub node_in : (n : ℕ) → is_node tiling n ≡ true → InTiling tiling (piece tiling n)
-    node_in n h = piece_in tiling given n (node_within n h)
-
-    pub target_node : (a b : ℕ) (t : Target a b) → is_node tiling b ≡ true
-    target_node a b t =
-        let m = t.meets in
-        subst (λ n. is_node tiling n ≡ true) (sym t.is) (named_node t.net (opposite t.side) t.layer (second_in t.side t.layer (piece tiling a) t.net m) m.second)
-
-    pub is_graph : IsGraph (4 * (tiling.rows * tiling.cols)) (is_node tiling) (links tiling)
-    is_graph = record {
-      within = λ a b n l. node_within b (target_node a b (target a b (node_in a n) l));
-      further = λ a b n l. target_node a b (target a b (node_in a n) l);
-      back = λ a b n l.
-          let t = target a b (node_in a n) l in
-          let there = meets_linked (opposite t.side) t.layer t.net (piece tiling a) (meets_back t.side t.layer (piece tiling a) t.net t.meets) in
-          subst (λ m. Linked (links tiling) m a) (sym t.is) (subst (λ m. Linked (links tiling) (number tiling t.net) m) (number_back tiling a) there);
-    }

@@ -7,8 +7,8 @@ use Rattle.geom.specs.Squares.{Covered}
 use Rattle.geom.specs.Conduction.{Drawing, IsChannel, Conducts}
 use Rattle.micro_tiles.specs.Shapes.{IsInner}
 use Rattle.micro_tiles.specs.Table.{boxes}
-use Rattle.micro_tiles.proofs.ShapeFacts.{tiles_keep_inside}
-use Rattle.stick_grid.specs.Plans.{Plan, IsPlan, Covers, local_x, local_y}
+use Rattle.stick_grid.specs.Plans.{Plan, Covers, local_x, local_y}
+use Rattle.stick_grid.proofs.Laid.{Laid}
 
 -- The square lies in the tile of this row and column.
 pub record LiesIn (plan : Plan) (row col : ℕ) (x y : ℤ) : Type 0 where
@@ -38,15 +38,15 @@ one_col plan row col r c x y h k =
     omega (arith, ints, i.left, i.right, j.left, j.right)
 
 -- A square that a tile covers lies in it.
-pub lies_in : (plan : Plan) → IsPlan plan → (row col : ℕ) (layer : Layer) (x y : ℤ) → row < plan.rows → col < plan.cols
+pub lies_in : (plan : Plan) → Laid plan → (row col : ℕ) (layer : Layer) (x y : ℤ) → row < plan.rows → col < plan.cols
     → Covered (boxes (plan.tile row col)) layer (local_x col x) (local_y plan row y) → LiesIn plan row col x y
 lies_in plan known row col layer x y is_row is_col covered = record {
   is_row = is_row;
   is_col = is_col;
-  inner = (tiles_keep_inside (plan.tile row col) (known.known row col is_row is_col)).all layer (local_x col x) (local_y plan row y) covered;
+  inner = (known.facts.inside (plan.tile row col) (known.plan_is.known row col is_row is_col)).all layer (local_x col x) (local_y plan row y) covered;
 }
 
-pub place_of : (plan : Plan) → IsPlan plan → (layer : Layer) (x y : ℤ) → Covers plan layer x y → Place plan x y
+pub place_of : (plan : Plan) → Laid plan → (layer : Layer) (x y : ℤ) → Covers plan layer x y → Place plan x y
 place_of plan known layer x y h = record { row = h.row; col = h.col; lies = lies_in plan known h.row h.col layer x y h.is_row h.is_col h.covered }
 
 -- A square that conducts has its layer.
@@ -59,7 +59,7 @@ has_layer Drawn Implant x y h = absurd h
 
 -- ---- what the tile of a square has there
 
-module _ (plan : Plan) (known : IsPlan plan) (row col : ℕ) (x y : ℤ) (lies : LiesIn plan row col x y) where
+module _ (plan : Plan) (known : Laid plan) (row col : ℕ) (x y : ℤ) (lies : LiesIn plan row col x y) where
   -- a layer
   pub covers_here : (layer : Layer) → Covers plan layer x y ↔ Covered (boxes (plan.tile row col)) layer (local_x col x) (local_y plan row y)
   covers_here layer = (

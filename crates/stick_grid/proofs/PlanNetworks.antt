@@ -8,12 +8,10 @@ use Rattle.geom.specs.declared.chip.Label.{Label}
 use Rattle.geom.specs.Squares.{Covered}
 use Rattle.geom.specs.Rows.{Among}
 use Rattle.geom.specs.Conduction.{Spot, Conducts}
-use Rattle.geom.proofs.Lists.{among_cases}
 use Rattle.micro_tiles.specs.declared.device.Transistor.{Transistor}
 use Rattle.micro_tiles.specs.Conducting.{conducts}
 use Rattle.micro_tiles.specs.Nets.{square_net}
 use Rattle.micro_tiles.specs.Table.{boxes, transistor_at}
-use Rattle.micro_tiles.proofs.CoverTests.{conducts_is}
 use Rattle.switch_net.specs.Circuit.{Circuit}
 use Rattle.switch_net.specs.declared.network.Device.{Device}
 use Rattle.nmos_model.specs.Channels.{gate_of, first_of, second_of}
@@ -23,15 +21,18 @@ use Rattle.nmos_model.specs.Nets.{AreNets}
 use Rattle.nmos_model.specs.Networks.{StandsFor}
 use Rattle.nmos_model.specs.Pads.{NetAt, ArePads, IsPadOf, AreSound, first_labels, is_named, label_net}
 use Rattle.nmos_model.specs.Refusals.{spot_of}
-use Rattle.stick_grid.specs.Plans.{Plan, IsPlan, Covers, local_x, local_y}
+use Rattle.stick_grid.specs.Plans.{Plan, Covers, local_x, local_y}
 use Rattle.stick_grid.specs.Pieces.{Piece, IsIn, HasPieces}
 use Rattle.stick_grid.specs.Transistors.{piece}
 use Rattle.stick_grid.specs.Names.{AreNames}
 use Rattle.stick_grid.specs.NetMaps.{tile_over}
 use Rattle.stick_grid.specs.Devices.{PlacedTransistor, placed, transistor_in, transistors_in_row, transistors_of, placed_channel, IsNamedDevice}
 use Rattle.stick_grid.specs.Depicted.{IsNamedPad, Depicts, PlansStandForNetworks}
+use Rattle.stick_grid.specs.TileFacts.{TileFacts}
+use Rattle.stick_grid.proofs.Laid.{Laid, laid}
+use Rattle.stick_grid.proofs.Lists.{among_cases}
 use Rattle.stick_grid.proofs.Places.{lies_in, has_layer}
-use Rattle.stick_grid.proofs.Assembly.{plans_have_pieces, squares_are_nets}
+use Rattle.stick_grid.proofs.Assembly.{has_pieces, squares_are_nets}
 use Rattle.stick_grid.proofs.TileChannels.{transistors_are_placed}
 use Rattle.stick_grid.proofs.NetsOfTilings.{tile_over_at, tile_below}
 use Rattle.stick_grid.proofs.PieceSquares.{square_of, piece_of}
@@ -118,7 +119,7 @@ module _ (plan : Plan) (name : Piece → ℕ) where
   unfolding named_over
   named_net layer x y = named_over (tile_over plan.cols x) (tile_over plan.rows y) layer x y
 
-  module _ (known : IsPlan plan) where
+  module _ (known : Laid plan) where
     net_is : (a : Spot) (p : Piece) → IsIn plan a p → named_net a.layer a.x a.y ≡ Some (name p)
     unfolding named_in named_over named_net
     net_is a p h =
@@ -129,7 +130,7 @@ module _ (plan : Plan) (name : Piece → ℕ) where
         let col = tile_over_at plan.cols p.col a.x h.is_col i.left (let r = i.right in omega (arith, ints)) in
         let south = tile_over_at plan.rows (plan.rows - 1 - p.row) a.y (omega arith) i.bottom (let t = i.top in omega (arith, ints)) in
         let row : plan.rows - 1 - (plan.rows - 1 - p.row) ≡ p.row = omega arith in
-        let test = (conducts_is (plan.tile p.row p.col) (local_x p.col a.x) (local_y plan p.row a.y) a.layer).1 h.conducts in
+        let test = (known.facts.conducts (plan.tile p.row p.col) a.layer (local_x p.col a.x) (local_y plan p.row a.y)).1 h.conducts in
         let here : named_in p.row p.col a.layer (local_x p.col a.x) (local_y plan p.row a.y) ≡ Some (name p) = rw (test, ← h.net) refl in
         rw (col, south, row) here
 
@@ -144,10 +145,10 @@ module _ (plan : Plan) (name : Piece → ℕ) where
           elim (cases_Bool (conducts tile layer (x -ℤ pos (14 * col)) (y -ℤ pos (14 * south)))) [
             | inr dark ↦ absurd (let no_net : None ≡ Some k = sym (rw dark refl) ∙ e in cc)
             | inl lit ↦
-                let here = (conducts_is tile (x -ℤ pos (14 * col)) (y -ℤ pos (14 * south)) layer).0 lit in
+                let here = (known.facts.conducts tile layer (x -ℤ pos (14 * col)) (y -ℤ pos (14 * south))).0 lit in
                 let there : Conducts (Covered (boxes tile)) layer (local_x col x) (local_y plan row y) = rw back here in
                 let p : Piece = piece row col (square_net tile layer (local_x col x) (local_y plan row y)) in
-                (plans_have_pieces plan known).conducts (record { layer = layer; x = x; y = y }) p
+                (has_pieces plan known).conducts (record { layer = layer; x = x; y = y }) p
                 (record { is_row = omega arith; is_col = is_col; conducts = there; net = refl })
           ]
 
@@ -167,7 +168,7 @@ module _ (plan : Plan) (name : Piece → ℕ) where
 
     module _ (count : ℕ) (names : AreNames plan count name) where
       pieces : HasPieces plan
-      pieces = plans_have_pieces plan known
+      pieces = has_pieces plan known
 
       pub are_nets : AreNets (Covers plan) count named_net
       are_nets = record {
@@ -184,7 +185,7 @@ module _ (plan : Plan) (name : Piece → ℕ) where
             let q = pieces.some b k in
             let is_p = piece_of plan p.0 a known p.1 in
             let is_q = piece_of plan q.0 b known q.1 in
-            let law = squares_are_nets plan a b p.0 q.0 known p.1 q.1 in
+            let law = squares_are_nets known.facts plan a b p.0 q.0 known.plan_is p.1 q.1 in
             let named = names_are_nets plan count name p.0 q.0 names is_p is_q in (
               λ e. law.1 (named.0 (inside (name p.0) (name q.0) (sym (net_is a p.0 p.1) ∙ e ∙ net_is b q.0 q.1))),
               λ j. net_is a p.0 p.1 ∙ ap (λ (k : ℕ). Some k) (named.1 (law.0 j)) ∙ sym (net_is b q.0 q.1),
@@ -193,7 +194,7 @@ module _ (plan : Plan) (name : Piece → ℕ) where
 
 -- ---- the network
 
-module _ (plan : Plan) (labels : List Label) (circuit : Circuit) (known : IsPlan plan) (d : Depicts plan labels circuit) where
+module _ (plan : Plan) (labels : List Label) (circuit : Circuit) (known : Laid plan) (d : Depicts plan labels circuit) where
   abbrev net : NetAt
   net = named_net plan d.name
 
@@ -217,7 +218,7 @@ module _ (plan : Plan) (labels : List Label) (circuit : Circuit) (known : IsPlan
   device : (p : PlacedTransistor) (made : Device) → Among (transistors_of plan) p → IsNamedDevice d.name d.vdd p made → IsDeviceOf net d.vdd (placed_channel plan p) made
   device p made among h =
       let at = is_there plan p among in
-      let is = transistors_are_placed plan p.row p.col p.transistor known at.is_row at.is_col at.has in
+      let is = transistors_are_placed known.facts plan p.row p.col p.transistor known.plan_is at.is_row at.is_col at.has in
       let c = placed_channel plan p in
       record {
         nets = record {
@@ -236,7 +237,7 @@ module _ (plan : Plan) (labels : List Label) (circuit : Circuit) (known : IsPlan
     net = net;
     nets = are_nets plan d.name known circuit.nets d.names;
     channels = map (placed_channel plan) (transistors_of plan);
-    regions = transistors_are_channels plan known;
+    regions = transistors_are_channels known.facts plan known.plan_is;
     sound = sound;
     connects = record {
       nets = refl;
@@ -247,5 +248,5 @@ module _ (plan : Plan) (labels : List Label) (circuit : Circuit) (known : IsPlan
     };
   }
 
-pub plans_stand_for_networks : PlansStandForNetworks
-plans_stand_for_networks plan labels circuit known d = stands plan labels circuit known d
+pub plans_stand_for_networks : TileFacts → PlansStandForNetworks
+plans_stand_for_networks facts plan labels circuit is d = stands plan labels circuit (laid facts plan is) d

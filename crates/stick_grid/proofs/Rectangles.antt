@@ -1,4 +1,4 @@
--- Rectangles that are classes of squares, and rectangles that are moved.
+-- Paths that stay in rectangles, and rectangles that are moved.
 use Rattle.std.proofs.Common.{◌↔◌, ℤ, pos, ◌+ℤ◌, ◌-ℤ◌, ◌≤ℤ◌, ◌<ℤ◌, arith, inl, inr}
 use Rattle.std.proofs.lemmas.Int.{ints}
 use Rattle.geom.specs.declared.layer.Layer.TheVariants.{Diffusion}
@@ -10,18 +10,13 @@ use Rattle.micro_tiles.specs.declared.side.Side.{Side}
 use Rattle.micro_tiles.specs.declared.side.Side.TheVariants.{North, East, South, West}
 use Rattle.micro_tiles.specs.Regions.{beside}
 use Rattle.micro_tiles.specs.Shapes.{IsInner}
-use Rattle.micro_tiles.proofs.Paths.{through}
 use Rattle.nmos_model.specs.Channels.{Above, Below, LeftOf, RightOf}
 
-module _ (S : Squares) (r : BoxShape) (all : (x y : ℤ) → Inside r x y → S x y)
-    (alone : (x y u v : ℤ) → Inside r x y → ShareSide x y u v → S u v → Inside r u v) where
-  stays : (x y u v : ℤ) → Inside r x y → Leads S x y u v → Inside r u v
-  stays _ _ _ _ i (here x y) = i
-  stays _ _ _ _ i (step x y a b u v side member path) = stays a b u v (alone x y a b i side member) path
-
-  -- Squares that have no others of the set beside them are a class, if they make a rectangle.
-  pub one_class : (x y u v : ℤ) → Inside r x y → Leads S x y u v ↔ Inside r u v
-  one_class x y u v i = (λ path. stays x y u v i path, λ k. through S r all x y u v i k)
+-- A path from a rectangle that has no other squares of the set beside it stays in it.
+pub stays : (S : Squares) (r : BoxShape) → ((x y u v : ℤ) → Inside r x y → ShareSide x y u v → S u v → Inside r u v)
+    → (x y u v : ℤ) → Inside r x y → Leads S x y u v → Inside r u v
+stays S r alone _ _ _ _ i (here x y) = i
+stays S r alone _ _ _ _ i (step x y a b u v side member path) = stays S r alone a b u v (alone x y a b i side member) path
 
 -- ---- moved
 

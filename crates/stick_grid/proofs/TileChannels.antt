@@ -2,9 +2,9 @@
 use Rattle.std.proofs.Common.{◌≡◌, ℕ, ◌-◌, ◌*◌, ◌<◌, ℤ, pos, ◌-ℤ◌, ◌≤ℤ◌, not, Bool, true, false, Some, IsTrue, IsFalse, if◌then◌else◌, refl, sym, arith}
 use Rattle.std.proofs.lemmas.Int.{ints}
 use Rattle.geom.specs.declared.layer.Layer.TheVariants.{Diffusion, Implant}
-use Rattle.geom.specs.Squares.{BoxShape, Inside}
+use Rattle.geom.specs.Squares.{BoxShape, Inside, Covered}
 use Rattle.geom.specs.Merged.{InRow}
-use Rattle.geom.specs.Conduction.{IsChannel, Conducts, ShareSide, Spot}
+use Rattle.geom.specs.Conduction.{IsChannel, Conducts, ShareSide, Leads, Spot}
 use Rattle.micro_tiles.specs.declared.side.Side.{Side}
 use Rattle.micro_tiles.specs.declared.side.Side.TheVariants.{North, East, South, West}
 use Rattle.micro_tiles.specs.declared.device.Mode.{Mode}
@@ -14,13 +14,15 @@ use Rattle.micro_tiles.specs.Regions as regions
 use Rattle.micro_tiles.specs.Regions.{beside, grown, channel_box, is_end, end_net}
 use Rattle.micro_tiles.specs.Shapes.{IsInner}
 use Rattle.micro_tiles.specs.Table.{is_transpose, boxes, transistor_at}
-use Rattle.micro_tiles.proofs.RegionFacts.{transistors_are_whole, channels_are_transistors}
 use Rattle.nmos_model.specs.Channels.{IsTransistor, IsFull, IsImplanted, HasTerminals, InColumn, Above, Below, LeftOf, RightOf, gate_of}
-use Rattle.stick_grid.specs.Plans.{Plan, IsPlan, Covers, local_x, local_y}
+use Rattle.stick_grid.specs.Plans.{Plan, Covers, local_x, local_y}
 use Rattle.stick_grid.specs.Pieces.{IsIn}
 use Rattle.stick_grid.specs.Transistors.{is_depletion, channel_at, piece, IsPlaced, TransistorsArePlaced, ChannelsAreOfTiles}
+use Rattle.stick_grid.specs.TileFacts.{TileFacts}
+use Rattle.stick_grid.proofs.Laid.{Laid, laid}
+use Rattle.stick_grid.proofs.Lifted.{lifted_path}
 use Rattle.stick_grid.proofs.Places.{LiesIn, place_of, covers_here, conducts_here, channel_here}
-use Rattle.stick_grid.proofs.Rectangles.{one_class, moved_by, IsDeep, inside_moved, above_moved, below_moved, left_moved, right_moved, in_tile, next_in_tile, beside_in_tile}
+use Rattle.stick_grid.proofs.Rectangles.{stays, moved_by, IsDeep, inside_moved, above_moved, below_moved, left_moved, right_moved, in_tile, next_in_tile, beside_in_tile}
 
 -- Channels lie deep in their tiles.
 deep : (mode : Mode) (transpose : Bool) → IsDeep (channel_box mode transpose)
@@ -32,7 +34,7 @@ deep Depletion true = grind (arith, ints)
 within_grown : (r : BoxShape) (x y : ℤ) → Inside r x y → Inside (grown r (pos 2)) x y
 within_grown r x y i = grind (arith, ints)
 
-module _ (plan : Plan) (known : IsPlan plan) (row col : ℕ) (is_row : row < plan.rows) (is_col : col < plan.cols)
+module _ (plan : Plan) (known : Laid plan) (row col : ℕ) (is_row : row < plan.rows) (is_col : col < plan.cols)
     (t : Transistor) (has : transistor_at (plan.tile row col) ≡ Some t) where
   abbrev tile : ℕ
   tile = plan.tile row col
@@ -44,7 +46,7 @@ module _ (plan : Plan) (known : IsPlan plan) (row col : ℕ) (is_row : row < pla
   r_deep = deep t.mode (is_transpose tile)
 
   whole : regions.IsTransistor tile t r
-  whole = transistors_are_whole tile t (known.known row col is_row is_col) has
+  whole = known.facts.whole tile t (known.plan_is.known row col is_row is_col) has
 
   -- the rectangle of the channel in the plan
   abbrev placed : BoxShape
@@ -85,10 +87,22 @@ module _ (plan : Plan) (known : IsPlan plan) (row col : ℕ) (is_row : row < pla
       let d = r_deep in
       grind (arith, ints)
 
+  -- The squares of the channel are joined in the tile, and so in the plan.
+  in_tile_channel : (x y : ℤ) → Inside placed x y → IsChannel (Covered (boxes tile)) (local_x col x) (local_y plan row y)
+  in_tile_channel x y i = (whole.channel (local_x col x) (local_y plan row y)).1 (inside_placed x y i)
+
+  path_in : (x y u v : ℤ) → Inside placed x y → Inside placed u v → Leads (IsChannel (Covers plan)) x y u v
+  path_in x y u v i k = lifted_path plan known row col is_row is_col x y u v
+      ((known.facts.shapes tile (known.plan_is.known row col is_row is_col)).channel (local_x col x) (local_y plan row y) (local_x col u) (local_y plan row v)
+      (in_tile_channel x y i) (in_tile_channel u v k))
+
   full : IsFull (Covers plan) placed.x1 placed.y1 placed
   full = record {
     channel = all placed.x1 placed.y1 corner;
-    squares = λ u v. one_class (IsChannel (Covers plan)) placed all alone placed.x1 placed.y1 u v corner;
+    squares = λ u v. (
+      stays (IsChannel (Covers plan)) placed alone placed.x1 placed.y1 u v corner,
+      path_in placed.x1 placed.y1 u v corner,
+    );
   }
 
   -- ---- implant
@@ -184,18 +198,19 @@ module _ (plan : Plan) (known : IsPlan plan) (row col : ℕ) (is_row : row < pla
   pub is_placed : IsPlaced plan row col t
   is_placed = record { region = region; gate = gate_in; first = first_in (is_transpose tile) refl; second = second_in (is_transpose tile) refl }
 
-pub transistors_are_placed : TransistorsArePlaced
-transistors_are_placed plan row col t known is_row is_col has = is_placed plan known row col is_row is_col t has
+pub transistors_are_placed : TileFacts → TransistorsArePlaced
+transistors_are_placed facts plan row col t is is_row is_col has = is_placed plan (laid facts plan is) row col is_row is_col t has
 
 -- A channel square lies in the channel of its tile.
-pub channels_are_of_tiles : ChannelsAreOfTiles
-channels_are_of_tiles plan x y known c =
+pub channels_are_of_tiles : TileFacts → ChannelsAreOfTiles
+channels_are_of_tiles facts plan x y is c =
+    let known = laid facts plan is in
     let place = place_of plan known Diffusion x y c.diffusion in
     let h = place.lies in
-    let below = known.known place.row place.col h.is_row h.is_col in
+    let below = is.known place.row place.col h.is_row h.is_col in
     let local = (channel_here plan known place.row place.col x y h).0 c in
-    let found = channels_are_transistors (plan.tile place.row place.col) (local_x place.col x) (local_y plan place.row y) below local in
-    let region = transistors_are_whole (plan.tile place.row place.col) found.0 below found.1 in
+    let found = facts.channels (plan.tile place.row place.col) (local_x place.col x) (local_y plan place.row y) below local in
+    let region = facts.whole (plan.tile place.row place.col) found.0 below found.1 in
     record {
       row = place.row;
       col = place.col;

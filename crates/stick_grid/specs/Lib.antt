@@ -17,3 +17,4 @@ pub mod PlainModules
 -- Definitions that serve private contracts alone:
 pub mod PieceGraph
 pub mod NetMaps
+pub mod TileFacts

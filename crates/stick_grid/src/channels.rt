@@ -10,6 +10,7 @@ ghost use Rattle.stick_grid.specs.Transistors.{IsOfTile, is_depletion, tile_chan
 
 use crate::grid::Grid;
 use crate::place::{Place, place_of};
+use crate::tile_facts::tile_facts;
 use micro_tiles::{Mode, TILE_SIDE, channel_in, transistor_in};
 use nmos_model::Channel;
 use rx_text::NoMemory;
@@ -24,6 +25,7 @@ pub(crate) fn channels_of(alloc: Global, grid: &Grid) -> Result<Vec<Channel>, No
     ensures channels { IfOk result (λ channels. AreChannels (Covers (plan_of grid.now)) channels.items) }
     ensures tiles { IfOk result (λ channels. (c : Channel) → Among channels.items c → IsOfTile (plan_of grid.now) c) }
 {
+    tile_facts();
     let cols = grid.cols();
     let mut channels = Vec::new(alloc);
     for before in 0..grid.size() {

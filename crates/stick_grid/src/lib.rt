@@ -10,6 +10,7 @@ mod nets;
 mod network;
 mod piece_graph;
 mod place;
+mod tile_facts;
 
 pub use grid::Grid;
 pub use network::grid_network;

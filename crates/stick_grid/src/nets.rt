@@ -8,6 +8,7 @@ ghost use Rattle.stick_grid.specs.Plans.{plan_of, Covers};
 use crate::grid::Grid;
 use crate::piece_graph::Pieces;
 use crate::place::Place;
+use crate::tile_facts::tile_facts;
 use geom::Layer;
 use micro_tiles::{TILE_SIDE, conducts, net_of_square};
 use nmos_model::{Classes, NetMap, classify};
@@ -49,6 +50,7 @@ pub(crate) fn nets_of(alloc: Global, grid: &Grid) -> Result<GridNets<'_>, NoMemo
     if grid.size() > MOST_TILES {
         return Err(NoMemory);
     }
+    tile_facts();
     let pieces = Pieces::new(grid);
     let classes = classify(alloc, &pieces)?;
     Ok(GridNets { pieces, classes })

@@ -11,10 +11,17 @@ use crate::channels::channels_of;
 use crate::grid::Grid;
 use crate::nets::nets_of;
 use geom::Label;
-use nmos_model::{ReadChipFault, network_of};
+use nmos_model::laws::known_drawings_are_judged;
+use nmos_model::{Drawn, ReadChipFault, network_of};
 use rx_text::NoMemory;
 use std::alloc::Global;
 use switch_net::Network;
+
+impl Drawn for Grid {
+    ghost use Rattle.stick_grid.specs.Plans.{Covers, plan_of};
+
+    ghost covers = { λ grid. Covers (plan_of grid) };
+}
 
 /// The network that the squares of the grid stand for, with these labels, in lambda: its nets are the nets of the tiles, joined
 /// where neighbouring tiles carry a layer over their common side, and its devices are the transistors of the tiles. Extraction of
@@ -27,6 +34,7 @@ pub fn grid_network(alloc: Global, grid: &Grid, labels: &[Label]) -> Result<Netw
     requires { (code : ExtractCode) (place : Place) → IsRefused (Covers (plan_of grid.now)) labels.now code place → ⊥ }
     ensures { IfOk result (StandsFor (Covers (plan_of grid.now)) labels.now) }
 {
+    known_drawings_are_judged::<Grid>();
     let channels = channels_of(alloc, grid)?;
     let nets = nets_of(alloc, grid)?;
     match network_of(alloc, nets.count(), &nets, &channels, labels) {

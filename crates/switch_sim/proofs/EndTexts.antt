@@ -3,7 +3,7 @@ use Rattle.std.proofs.Common.{◌≡◌, ℕ, ◌+◌, ◌<◌, List, [], ◌∷
 use Rattle.std.proofs.KnownBytes.{Appends-trans}
 use Rattle.std.proofs.lemmas.List.{map-append, take_more, take-append-drop}
 use Rattle.std.specs.Io.KnownBytes.{Appends}
-use Rattle.rx_io.proofs.Fronts.{AppendsFront-within_first, AppendsFront-within_second}
+use Rattle.switch_sim.proofs.Fronts.{AppendsFront-within_first, AppendsFront-within_second}
 use Rattle.rx_io.specs.Streams.{AppendsFront}
 use Rattle.switch_sim.specs.Serving.{Listener, texts_at_end}
 use Rattle.switch_sim.specs.declared.serving.Asked.{Asked}

@@ -6,6 +6,7 @@ pub mod Cuts
 pub mod LineFaults
 pub mod TextLines
 pub mod Reading
+pub mod Fronts
 pub mod Runs
 pub mod Faultless
 pub mod OneTrace

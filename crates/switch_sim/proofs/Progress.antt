@@ -3,7 +3,7 @@ use Rattle.std.proofs.Common.{◌≡◌, inl, inr, ℕ, ◌+◌, ◌<◌, ◌≤
 use Rattle.std.proofs.lemmas.List.{length-append}
 use Rattle.std.proofs.KnownBytes.{Appends-nil, Appends-trans}
 use Rattle.std.specs.Io.KnownBytes.{Appends}
-use Rattle.rx_io.proofs.Fronts.{AppendsFront-within_first, AppendsFront-within_second}
+use Rattle.switch_sim.proofs.Fronts.{AppendsFront-within_first, AppendsFront-within_second}
 use Rattle.rx_io.specs.Streams.{AppendsFront}
 use Rattle.sim_probe.specs.Manner.{Manner}
 use Rattle.sim_probe.specs.declared.sample.Sample.{Sample}

@@ -3,7 +3,7 @@ use mathlib.Core.Path.{fun_ext}
 use Rattle.std.proofs.Common.{◌≡◌, ℕ, suc, ◌+◌, Bool, true, false, List, [], ◌∷◌, ◌++◌, Option, length, refl, sym, ap, ap₂, ◌∙◌, subst, arith, append_assoc, append-nil}
 use Rattle.std.proofs.KnownBytes.{Appends-nil, Appends-trans}
 use Rattle.std.specs.Io.KnownBytes.{Appends}
-use Rattle.rx_io.proofs.Fronts.{AppendsFront-within_first, AppendsFront-within_second}
+use Rattle.switch_sim.proofs.Fronts.{AppendsFront-within_first, AppendsFront-within_second}
 use Rattle.rx_io.specs.Streams.{AppendsFront}
 use Rattle.switch_net.specs.Circuit.{Circuit}
 use Rattle.switch_net.specs.LeastLevels.{ClocksLevelsExist, RunLevelsExist}

@@ -24,7 +24,7 @@ network_by_sites-requires-clause-below c =
     let net = net_of c.in_ok-nets.nets in
     let nets : AreNets (Covered boxes) c.count.result net =
     subst (λ (n : ℕ). AreNets (Covered boxes) n net) (sym c.count.ensures) (c.in_ok-nets.ensures boxes layers terminals) in
-    let judged = c.known_boxes_are_judged.ensures boxes in
+    let judged = c.known_drawings_are_judged.ensures (record { items = boxes }) in
     judged.below c.count.result net nets
 
 pub network_by_sites-requires-clause-near : goal.network_by_sites-requires-clause-near
@@ -39,7 +39,7 @@ network_by_sites-requires-clause-on_nets c = λ one among.
     let net = net_of c.in_ok-nets.nets in
     let nets : AreNets (Covered boxes) c.count.result net =
     subst (λ (n : ℕ). AreNets (Covered boxes) n net) (sym c.count.ensures) (c.in_ok-nets.ensures boxes layers terminals) in
-    let judged = c.known_boxes_are_judged.ensures boxes in
+    let judged = c.known_drawings_are_judged.ensures (record { items = boxes }) in
     let channels : List Channel = c.deref.result.now in
     let regions : AreChannels (Covered boxes) channels =
     subst (AreChannels (Covered boxes)) (sym c.deref.ensures.value) (c.in_ok-channels.ensures.channels boxes layers terminals) in
@@ -53,7 +53,7 @@ returns-clause-network c =
     let net = net_of c.in_ok-nets.nets in
     let nets : AreNets (Covered boxes) c.count.result net =
     subst (λ (n : ℕ). AreNets (Covered boxes) n net) (sym c.count.ensures) (c.in_ok-nets.ensures boxes layers terminals) in
-    let judged = c.known_boxes_are_judged.ensures boxes in
+    let judged = c.known_drawings_are_judged.ensures (record { items = boxes }) in
     let channels : List Channel = c.deref.result.now in
     let regions : AreChannels (Covered boxes) channels =
     subst (AreChannels (Covered boxes)) (sym c.deref.ensures.value) (c.in_ok-channels.ensures.channels boxes layers terminals) in
@@ -70,7 +70,7 @@ returns-clause-fault c =
     let net = net_of c.in_ok-nets.nets in
     let nets : AreNets (Covered boxes) c.count.result net =
     subst (λ (n : ℕ). AreNets (Covered boxes) n net) (sym c.count.ensures) (c.in_ok-nets.ensures boxes layers terminals) in
-    let judged = c.known_boxes_are_judged.ensures boxes in
+    let judged = c.known_drawings_are_judged.ensures (record { items = boxes }) in
     let channels : List Channel = c.deref.result.now in
     let regions : AreChannels (Covered boxes) channels =
     subst (AreChannels (Covered boxes)) (sym c.deref.ensures.value) (c.in_ok-channels.ensures.channels boxes layers terminals) in
@@ -85,5 +85,5 @@ returns-in_err-channels-clause-fault c =
     let layers : AreLayers (Covered boxes) c.in_ok-layers.layers = c.in_ok-layers.ensures in
     let terminals = terminals_are (Covered boxes) c.in_ok-layers.layers layers c.in_ok-terminals.terminals c.in_ok-terminals.ensures in
     let p = err_from_is_err_and c.from_residual-in_err-channels.result c.from_residual-in_err-channels.ensures.1 in
-    let judged = c.known_boxes_are_judged.ensures boxes in
+    let judged = c.known_drawings_are_judged.ensures (record { items = boxes }) in
     rw (p.1, p.2) (judged.odd c.args.labels.now _ (c.in_err-channels.ensures.fault boxes layers terminals))

@@ -2,12 +2,12 @@ use Rattle.std.proofs.Common.{◌≡◌, inl, inr, is_some, None, take, subst, s
 use Rattle.std.proofs.lemmas.List.{take_more, take_all}
 use Rattle.rx_text.specs.Role.{bears_name}
 use Rattle.geom.specs.declared.chip.Label.{Label}
-use Rattle.geom.proofs.Lists.{among_push}
 use Rattle.nmos_model.specs.Lists.{Matched}
 use Rattle.nmos_model.specs.Pads.{AreNamed, IsPadOf, label_net}
 use Rattle.nmos_model.specs.Sites.{label_site}
 use Rattle.nmos_model.specs.Unsound.IsUnsound.{label_on_nothing}
 use Rattle.nmos_model.proofs.AskedNets.{found_at}
+use Rattle.nmos_model.proofs.Common.{among_either}
 use Rattle.nmos_model.proofs.Matching.{matched_more}
 use Rattle.nmos_model.proofs.Naming.{first_on_nothing}
 use Rattle.nmos_model.proofs.pads.pad_of_each.Goals as goal
@@ -26,9 +26,9 @@ loop-at-preserved g c =
           (matched_more (IsPadOf net) (take c.loop-at.at labels) c.loop-at.pads.items label _ c.loop-at.invariant.pads
           (record { name = c.name_of.ensures.name; number = sym here ∙ c.in-Some.is }));
       named = λ one h.
-          elim (among_push (take c.loop-at.at labels) label one (rw (last, ← c.index-labels-at.is) at h)) [
-            | inl i ↦ c.loop-at.invariant.named one i
-            | inr same ↦ subst (λ (l : Label). bears_name l.pad.role ≡ is_some l.pad.name) same c.name_of.ensures.named
+          elim (among_either (take c.loop-at.at labels) label one (rw (last, ← c.index-labels-at.is) at h)) [
+            | inr i ↦ c.loop-at.invariant.named one i
+            | inl same ↦ subst (λ (l : Label). bears_name l.pad.role ≡ is_some l.pad.name) same c.name_of.ensures.named
           ];
     }
 

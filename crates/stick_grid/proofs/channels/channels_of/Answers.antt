@@ -4,6 +4,7 @@ use Rattle.micro_tiles.specs.Table.{transistor_at}
 use Rattle.stick_grid.specs.Tilings.{tile_at}
 use Rattle.stick_grid.specs.Plans.{plan_of}
 use Rattle.stick_grid.proofs.Moves.{row_below}
+use Rattle.stick_grid.proofs.Laid.{laid}
 use Rattle.stick_grid.proofs.Plans.{tilings_are_plans}
 use Rattle.stick_grid.proofs.Listed.{listed_channel, listed_no_channel, listed_all}
 use Rattle.stick_grid.proofs.channels.channels_of.Goals as goal
@@ -17,7 +18,7 @@ loop-before-preserved c =
     let row = c.place_of.result.row in
     let col = c.place_of.result.col in
     let tile = tile_at tiling row col in
-    let known = tilings_are_plans tiling c.cols-cols.ensures.tiling in
+    let known = laid c.tile_facts.ensures (plan_of tiling) (tilings_are_plans tiling c.cols-cols.ensures.tiling) in
     let number : row * tiling.cols + col ≡ n = rw (← c.cols-cols.ensures.number) c.place_of.ensures.number in
     let is_col : col < tiling.cols = rw (← c.cols-cols.ensures.number) c.place_of.ensures.is_col in
     let before : n < tiling.rows * tiling.cols = rw (← c.size-before-end.ensures.number) c.loop-before-test.true in
@@ -35,5 +36,5 @@ loop-before-preserved c =
 pub returns-clause-channels : goal.returns-clause-channels
 returns-clause-channels c =
     let tiling = c.args.grid.now in
-    listed_all (plan_of tiling) (tilings_are_plans tiling c.cols-cols.ensures.tiling) c.loop-before.before c.loop-before.channels.items
+    listed_all (plan_of tiling) (laid c.tile_facts.ensures (plan_of tiling) (tilings_are_plans tiling c.cols-cols.ensures.tiling)) c.loop-before.before c.loop-before.channels.items
     (let n = c.size-before-end.ensures.number in omega arith) c.loop-before.invariant

@@ -3,4 +3,4 @@ use Rattle.stick_grid.proofs.ListedRows as rows
 use Rattle.stick_grid.proofs.laws.transistors_are_channels.Goals as goal
 
 pub returns : goal.returns
-returns c = rows.transistors_are_channels
+returns c = rows.transistors_are_channels c.tile_facts.ensures

@@ -5,7 +5,7 @@ use Rattle.stick_grid.proofs.NetsOfTilings.{are_nets}
 use Rattle.stick_grid.proofs.nets.nets_of.Goals as goal
 
 pub classify-requires : goal.classify-requires
-classify-requires c = is_graph c.new-pieces.result (rw c.new-pieces.ensures c.size.ensures.tiling)
+classify-requires c = is_graph c.new-pieces.result c.tile_facts.ensures (rw c.new-pieces.ensures c.size.ensures.tiling)
 
 pub invariant_of-result : goal.invariant_of-result
 invariant_of-result c =
@@ -17,4 +17,4 @@ invariant_of-result c =
 
 pub returns-clause-nets : goal.returns-clause-nets
 returns-clause-nets c =
-    rw (← c.new-pieces.ensures) (are_nets c.new-pieces.result (rw c.new-pieces.ensures c.size.ensures.tiling) c.in_ok-classes.classes c.in_ok-classes.ensures)
+    rw (← c.new-pieces.ensures) (are_nets c.tile_facts.ensures c.new-pieces.result (rw c.new-pieces.ensures c.size.ensures.tiling) c.in_ok-classes.classes c.in_ok-classes.ensures)

@@ -1,6 +1,6 @@
 use Rattle.std.proofs.Common.{Result, Ok, Err}
 use Rattle.std.specs.Prelude.{OnErr}
-use Rattle.rx_io.proofs.Fronts.{AppendsFront-within_first, AppendsFront-within_second}
+use Rattle.switch_sim.proofs.Fronts.{AppendsFront-within_first, AppendsFront-within_second}
 use Rattle.switch_sim.proofs.Listeners.{untouched}
 use Rattle.switch_sim.proofs.run.end_clock.Goals as goal
 
