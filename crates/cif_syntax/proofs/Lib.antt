@@ -12,3 +12,4 @@ pub mod Following
 pub mod Breaking
 pub mod Sorting
 pub mod Apart
+pub mod Standing

@@ -1,5 +1,5 @@
 -- The next sentence of a text.
-use Rattle.std.specs.Prelude.{◌≡◌, ℕ, ◌==◌, ◌+◌, ◌≤◌, ◌<◌, Bool, true, false, ◌&&◌, ◌||◌, List, [], ◌∷◌, ◌++◌, length, take, drop, Result, Ok, Err, codes, if◌then◌else◌}
+use Rattle.std.specs.Prelude.{◌≡◌, ◌⊎◌, ℕ, ◌==◌, ◌+◌, ◌≤◌, ◌<◌, Bool, true, false, ◌&&◌, ◌||◌, List, [], ◌∷◌, ◌++◌, length, take, drop, Result, Ok, Err, codes, if◌then◌else◌}
 use Rattle.geom.specs.declared.cif_code.CifCode.{CifCode}
 use Rattle.geom.specs.declared.cif_code.CifCode.TheVariants.{C9}
 use Rattle.geom.specs.CifCommands.{AreCifBlanks, is_cif_blank}
@@ -32,6 +32,11 @@ Stands text from (End first) = IsEndAt text from first
 -- Whatever the commands before, the code is that of the command at the front of the rest, at this place.
 abbrev pub StandsSyntax : List ℕ → ℕ → CifCode → ℕ → Type 0
 StandsSyntax text from code at = (s : CifState) → CommandFault s (take from text) (drop from text) code (take at text)
+
+-- At each place of a text stands a sentence, or a code of the syntax.
+abbrev pub SentencesStandOrBreak : Type 0
+SentencesStandOrBreak = (text : List ℕ) (from : ℕ) → from ≤ length text
+    → ((sentence : Sentence) × Stands text from sentence) ⊎ ((code : CifCode) × (at : ℕ) × StandsSyntax text from code at)
 
 -- ---- for private contracts
 

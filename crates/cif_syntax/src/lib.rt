@@ -9,6 +9,6 @@ mod next;
 mod sentence;
 mod slot;
 
-pub use laws::sentences_are_apart;
+pub use laws::{sentences_are_apart, sentences_stand_or_break};
 pub use next::{Sentence, SyntaxFault, next_sentence};
 pub use sentence::{SentenceFault, sentence_end};

@@ -1,3 +1,4 @@
+mod FewOrRefused
 mod FirstLabels
 mod FlatBoxes
 mod LabelNames

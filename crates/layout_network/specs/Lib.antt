@@ -2,3 +2,4 @@
 pub mod Layouts
 pub mod Reading
 pub mod OneReading
+pub mod FewOrRefused

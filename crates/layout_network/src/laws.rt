@@ -4,6 +4,7 @@ ghost use Rattle.std.specs.Prelude.{ℕ, ◌+◌, ◌≤◌, List, length};
 ghost use Rattle.rx_text.specs.declared.place.Place.TheVariants.{Text};
 ghost use Rattle.switch_net.specs.Circuit.{Circuit};
 ghost use Rattle.switch_net.specs.Validity.{IsNetwork};
+ghost use Rattle.layout_network.specs.FewOrRefused.{DrawingsAreFewOrRefused};
 ghost use Rattle.layout_network.specs.Layouts.{DrawsNetwork, LayoutRefusal};
 ghost use Rattle.layout_network.specs.OneReading.{LayoutsHaveOneReading};
 ghost use Rattle.layout_network.specs.declared.fault.LayoutCode.{LayoutCode};
@@ -29,4 +30,9 @@ pub fn layouts_stand_for_networks()
 /// A refusal at a line stands in a line of its text, or in the one behind the last line feed.
 pub fn layout_refusals_stand_in_the_text()
     ensures { (text : List ℕ) (code : LayoutCode) (line column : ℕ) → LayoutRefusal text code (Text line column) → line ≤ length text + 1 }
+{}
+
+/// A text that is of a drawing draws no more boxes than are read, all within reach, or its layout is refused for what it draws.
+pub fn drawings_are_few_or_refused()
+    ensures { DrawingsAreFewOrRefused }
 {}

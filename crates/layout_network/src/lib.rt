@@ -12,6 +12,7 @@ mod reading;
 
 pub use fault::{LayoutCode, LayoutFault, ReadLayoutFault};
 pub use laws::{
-    layout_refusals_stand_in_the_text, layouts_have_one_reading, layouts_stand_for_networks,
+    drawings_are_few_or_refused, layout_refusals_stand_in_the_text, layouts_have_one_reading,
+    layouts_stand_for_networks,
 };
 pub use reading::read_layout;
