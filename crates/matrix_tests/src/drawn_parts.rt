@@ -294,3 +294,26 @@ fn drawn_nodes_have_their_networks(rt: HostRuntime) -> Result<(), Fail> {
     }
     Ok(())
 }
+
+/// Inverters one behind the other, and nets to spare, as a text.
+fn inverters(alloc: Global, nets: u32, gates: u32) -> Result<String, Fail> {
+    let mut text = format!(in alloc; "{nets}")?;
+    for gate in 0..gates {
+        let net = gate.wrapping_add(5);
+        text.push_str(format!(in alloc; " {net}={} +{net}", gate.wrapping_add(4))?.as_str())?;
+    }
+    Ok(text)
+}
+
+#[test]
+fn a_thousand_gates_are_drawn(rt: HostRuntime) -> Result<(), Fail> {
+    let alloc = rt.alloc();
+    let text = inverters(alloc, 1249, 1000)?;
+    let part = part_of(alloc, text.as_str())?.ok_or("no part")?;
+    assert_eq!(rt; needed(&part), (5000, 2500));
+    let (at, cols) = columns(alloc, part.nets(), 2)?;
+    assert!(rt; fits(&part, &at, 5000, cols));
+    let grid = draw(alloc, &part, &at, 5000, cols)?;
+    assert_eq!(rt; (grid.rows(), grid.cols()), (5000, 2500));
+    Ok(())
+}

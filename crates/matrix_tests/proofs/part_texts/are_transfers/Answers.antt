@@ -1,5 +1,5 @@
 -- One transfer more is of the part.
-use Rattle.std.proofs.Common.{◌<◌, All, get_or, refl, subst, arith}
+use Rattle.std.proofs.Common.{All, refl, subst, arith}
 use Rattle.std.proofs.lemmas.List.{take_all}
 use Rattle.std.proofs.lemmas.List.Elements.{All-more}
 use Rattle.nor_net.specs.Part.{IsPartTransfer}
