@@ -1,6 +1,7 @@
 -- The list of findings: one for each thing that breaks a rule, by rule and then in row order.
 use Rattle.std.specs.Prelude.{◌≡◌, ◌⊎◌, ℕ, ◌<◌, ℤ, List}
 use Rattle.geom.specs.declared.chip.Label.{Label}
+use Rattle.lambda_rules.specs.declared.finding.Finding.{Finding}
 use Rattle.geom.specs.Rows.{Among, Pairwise}
 use Rattle.geom.specs.Conduction.{Drawing}
 use Rattle.nmos_model.specs.Channels.{IsByRow}
@@ -8,10 +9,8 @@ use Rattle.nmos_model.specs.Lists.{Matched}
 use Rattle.lambda_rules.specs.Rules.{Breaks}
 
 -- a rule by its number, and the square at which it is broken
-pub record FindingShape : Type 0 where
-  pub rule : ℕ
-  pub x : ℤ
-  pub y : ℤ
+abbrev pub FindingShape : Type 0
+FindingShape = Finding
 
 -- what breaks a rule: the first squares of its one or two classes or devices, and the finding
 pub record Breach : Type 0 where

@@ -32,14 +32,12 @@ pub record IsThin (k : ℕ) (S : Squares) (x y : ℤ) : Type 0 where
 -- the squares beside the gate's sides: two lines on each side of the channel that has no terminal
 abbrev pub overhang : Channel → BoxShape × BoxShape
 overhang c =
-    if c.upright then (
-      record { layer = Poly; x1 = c.x1 -ℤ pos 2; y1 = c.y1; x2 = c.x1; y2 = c.y2 },
-      record { layer = Poly; x1 = c.x2; y1 = c.y1; x2 = c.x2 +ℤ pos 2; y2 = c.y2 },
-    )
-    else (
-      record { layer = Poly; x1 = c.x1; y1 = c.y1 -ℤ pos 2; x2 = c.x2; y2 = c.y1 },
-      record { layer = Poly; x1 = c.x1; y1 = c.y2; x2 = c.x2; y2 = c.y2 +ℤ pos 2 },
-    )
+    if c.upright then
+      (record { layer = Poly; x1 = c.x1 -ℤ pos 2; y1 = c.y1; x2 = c.x1; y2 = c.y2 },
+       record { layer = Poly; x1 = c.x2; y1 = c.y1; x2 = c.x2 +ℤ pos 2; y2 = c.y2 })
+    else
+      (record { layer = Poly; x1 = c.x1; y1 = c.y1 -ℤ pos 2; x2 = c.x2; y2 = c.y1 },
+       record { layer = Poly; x1 = c.x1; y1 = c.y2; x2 = c.x2; y2 = c.y2 +ℤ pos 2 })
 
 -- poly and no diffusion
 pub record IsBarePoly (Drawn : Drawing) (x y : ℤ) : Type 0 where
