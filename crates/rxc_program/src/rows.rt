@@ -514,7 +514,7 @@ pub(crate) const FAILING: &[Failing] = &[
         word: b"sim",
         input: Input::Behind(b"1\nchip\n", TRANSISTOR),
         reads: 2,
-        most: usize::MAX,
+        most: 3,
         writes: 2,
     },
     Failing {
